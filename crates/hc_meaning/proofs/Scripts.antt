@@ -1,0 +1,102 @@
+-- A script is its first statement and the script behind it, and is read in one way.
+use Rattle.std.proofs.Common.{◌≡◌, ◌≢◌, ◌∙◌, ap, sym, subst, refl, inl, inr, arith, append_assoc, lit<, ℕ, ◌<◌, List, [], ◌∷◌, ◌++◌, codes}
+use Rattle.std.specs.List.{AllByRecursion}
+use Rattle.hc_meaning.specs.declared.statement.Statement.{Statement}
+use Rattle.hc_meaning.specs.Front.{BeginsWith, BeginsOutside, IsBlankByte}
+use Rattle.hc_meaning.specs.Input.{IsBlank, IsScript, IsStatement}
+use Rattle.hc_meaning.proofs.Spans.{same_span}
+use Rattle.hc_meaning.proofs.Statements.{statement_head, statement_once}
+
+-- the end of bytes that all pass
+all_behind : (P : ℕ → Type 0) (front bytes : List ℕ) → AllByRecursion P (front ++ bytes) → AllByRecursion P bytes
+all_behind P [] bytes all = all
+all_behind P (b ∷ front) bytes all = all_behind P front bytes all.1
+
+all_joined : (P : ℕ → Type 0) (front bytes : List ℕ) → AllByRecursion P front → AllByRecursion P bytes → AllByRecursion P (front ++ bytes)
+all_joined P [] bytes in_front all = all
+all_joined P (b ∷ front) bytes in_front all = (in_front.0, all_joined P front bytes in_front.1 all)
+
+-- bytes that all pass and begin outside are none
+all_and_outside : (P : ℕ → Type 0) (bytes : List ℕ) → AllByRecursion P bytes → BeginsOutside P bytes → bytes ≡ []
+all_and_outside P [] all outside = refl
+all_and_outside P (b ∷ bytes) all outside = absurd (outside all.0)
+
+no_blank : (b : ℕ) → 32 < b → IsBlankByte b → ⊥
+no_blank b high (inl space) = omega arith
+no_blank b high (inr line_feed) = omega arith
+
+-- a statement begins with a letter
+begins_with_letter : (bytes : List ℕ) (statement : Statement) (rest : List ℕ) → BeginsWith IsStatement bytes statement rest → BeginsOutside IsBlankByte bytes
+begins_with_letter bytes statement rest begins =
+    elim (statement_head bytes statement rest begins) [
+      | inl head ↦ subst (BeginsOutside IsBlankByte) (sym head.1) (no_blank 73 (lit< tt))
+      | inr head ↦ subst (BeginsOutside IsBlankByte) (sym head.1) (no_blank 83 (lit< tt))
+    ]
+
+cons_is_some : (b : ℕ) (bytes : List ℕ) → [] ≡ b ∷ bytes → ⊥
+cons_is_some b bytes e = cc
+
+-- and is not empty
+begins_with_some : (bytes : List ℕ) (statement : Statement) (rest : List ℕ) → BeginsWith IsStatement bytes statement rest → bytes ≡ [] → ⊥
+begins_with_some bytes statement rest begins empty =
+    elim (statement_head bytes statement rest begins) [
+      | inl head ↦ let none : [] ≡ codes "INSERT INTO t VALUES(" ++ head.0 = sym empty ∙ head.1 in cons_is_some 73 _ none
+      | inr head ↦ let none : [] ≡ codes "SELECT v FROM t WHERE id=" ++ head.0 = sym empty ∙ head.1 in cons_is_some 83 _ none
+    ]
+
+-- what is left where the blanks in front are gone
+pub script_from_front : (bytes blank rest : List ℕ) (statements : List Statement) → IsBlank blank → bytes ≡ blank ++ rest → IsScript rest statements → IsScript bytes statements
+script_from_front bytes blank rest [] is_blank e script = subst (AllByRecursion IsBlankByte) (sym e) (all_joined IsBlankByte blank rest is_blank script)
+script_from_front bytes blank rest (statement ∷ statements) is_blank e (more, written, behind, is_more, is_written, f, script) =
+    (blank ++ more, written, behind, all_joined IsBlankByte blank more is_blank is_more, is_written, e ∙ ap (λ (l : List ℕ). blank ++ l) f ∙ simp append_assoc, script)
+
+-- what is left is read as the same statements, where it begins with no blank
+pub script_behind_front : (bytes blank rest : List ℕ) (statements : List Statement) → IsBlank blank → BeginsOutside IsBlankByte rest → bytes ≡ blank ++ rest → IsScript bytes statements → IsScript rest statements
+script_behind_front bytes blank rest [] is_blank outside e script = all_behind IsBlankByte blank rest (subst (AllByRecursion IsBlankByte) e script)
+script_behind_front bytes blank rest (statement ∷ statements) is_blank outside e (more, written, behind, is_more, is_written, f, script) =
+    let begins : BeginsWith IsStatement (written ++ behind) statement behind = (written, is_written, refl) in
+    let both : (blank ≡ more) × (rest ≡ written ++ behind) =
+    same_span IsBlankByte blank more rest (written ++ behind) is_blank is_more outside (begins_with_letter (written ++ behind) statement behind begins) (sym e ∙ f ∙ append_assoc more written behind) in
+    ([], written, behind, tt, is_written, both.1, script)
+
+-- a script's first statement, and the others, which are what stands behind it
+pub record First (bytes : List ℕ) (statements : List Statement) : Type 0 where
+  pub statement : Statement
+  pub others : List Statement
+  pub rest : List ℕ
+  pub are : statements ≡ statement ∷ others
+  pub begins : BeginsWith IsStatement bytes statement rest
+  pub script : IsScript rest others
+
+-- where something stands there that is no blank, a statement does
+pub script_first : (bytes : List ℕ) (statements : List Statement) → BeginsOutside IsBlankByte bytes → bytes ≢ [] → IsScript bytes statements → First bytes statements
+script_first bytes [] outside some script = absurd (some (all_and_outside IsBlankByte bytes script outside))
+script_first bytes (statement ∷ statements) outside some (more, written, behind, is_more, is_written, f, script) =
+    let begins : BeginsWith IsStatement (written ++ behind) statement behind = (written, is_written, refl) in
+    let both : ([] ≡ more) × (bytes ≡ written ++ behind) =
+    same_span IsBlankByte [] more bytes (written ++ behind) tt is_more outside (begins_with_letter (written ++ behind) statement behind begins) (f ∙ append_assoc more written behind) in
+    record { statement = statement; others = statements; rest = behind; are = refl; begins = (written, is_written, both.1); script = script }
+
+pub script_from_first : (bytes rest : List ℕ) (statement : Statement) (statements : List Statement) → BeginsWith IsStatement bytes statement rest → IsScript rest statements → IsScript bytes (statement ∷ statements)
+script_from_first bytes rest statement statements (written, is_written, e) script = ([], written, rest, tt, is_written, e, script)
+
+-- blanks are no script with a statement
+blank_is_empty : (bytes more written behind : List ℕ) (statement : Statement) → IsBlank bytes → IsStatement written statement → bytes ≡ more ++ written ++ behind → ⊥
+blank_is_empty bytes more written behind statement is_blank is_written e =
+    let begins : BeginsWith IsStatement (written ++ behind) statement behind = (written, is_written, refl) in
+    let blank : IsBlank (written ++ behind) = all_behind IsBlankByte more (written ++ behind) (subst (AllByRecursion IsBlankByte) (e ∙ append_assoc more written behind) is_blank) in
+    begins_with_some (written ++ behind) statement behind begins (all_and_outside IsBlankByte (written ++ behind) blank (begins_with_letter (written ++ behind) statement behind begins))
+
+pub script_once : (bytes : List ℕ) (one other : List Statement) → IsScript bytes one → IsScript bytes other → one ≡ other
+script_once bytes [] [] first second = refl
+script_once bytes [] (t ∷ ts) is_blank (more, written, behind, is_more, is_written, e, script) = absurd (blank_is_empty bytes more written behind t is_blank is_written e)
+script_once bytes (s ∷ ss) [] (more, written, behind, is_more, is_written, e, script) is_blank = absurd (blank_is_empty bytes more written behind s is_blank is_written e)
+script_once bytes (s ∷ ss) (t ∷ ts) (blank, text, x, is_blank, is_s, e, first) (more, written, y, is_more, is_t, f, second) =
+    let begins : BeginsWith IsStatement (text ++ x) s x = (text, is_s, refl) in
+    let goes_on : BeginsWith IsStatement (written ++ y) t y = (written, is_t, refl) in
+    let spans : (blank ≡ more) × (text ++ x ≡ written ++ y) =
+    same_span IsBlankByte blank more (text ++ x) (written ++ y) is_blank is_more (begins_with_letter (text ++ x) s x begins) (begins_with_letter (written ++ y) t y goes_on)
+    (sym (append_assoc blank text x) ∙ sym e ∙ f ∙ append_assoc more written y) in
+    let both : (s ≡ t) × (x ≡ y) = statement_once (text ++ x) s t x y begins (written, is_t, spans.1) in
+    let others : ss ≡ ts = script_once y ss ts (subst (λ (l : List ℕ). IsScript l ss) both.1 first) second in
+    ap (λ (statement : Statement). statement ∷ ss) both.0 ∙ ap (λ (l : List Statement). t ∷ l) others

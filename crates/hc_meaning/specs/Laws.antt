@@ -1,0 +1,26 @@
+-- Laws of these definitions, each shown by a function of `laws` with an empty body.
+use Rattle.std.specs.Prelude.{◌≡◌, ℕ, List, [], ◌∷◌}
+use Rattle.hc_meaning.specs.declared.statement.Statement.{Statement}
+use Rattle.hc_meaning.specs.declared.transaction.Transaction.{Transaction}
+use Rattle.hc_meaning.specs.Database.{Db, IsDb}
+use Rattle.hc_meaning.specs.Run.{run}
+use Rattle.hc_meaning.specs.History.{state}
+use Rattle.hc_meaning.specs.Input.{IsScript}
+use Rattle.hc_meaning.specs.Played.{played_alone}
+use Rattle.hc_meaning.specs.RightOutput.{IsRightRun}
+
+-- bytes are the script of one list of statements at most
+abbrev pub HasOneReading : Type 0
+HasOneReading = (bytes : List ℕ) (one other : List Statement) → IsScript bytes one → IsScript bytes other → one ≡ other
+
+-- a statement leaves ids that ascend where it found ids that ascend
+abbrev pub RunKeepsIdsInOrder : Type 0
+RunKeepsIdsInOrder = (db : Db) (statement : Statement) → IsDb db → IsDb (run db statement).db
+
+-- the ids ascend after any number of commits, whatever the transactions are
+abbrev pub EveryStateIsInOrder : Type 0
+EveryStateIsInOrder = (history : List Transaction) (k : ℕ) → IsDb (state history k)
+
+-- the setup script's statements, run one after another, are a right run of it
+abbrev pub SerialRunIsRight : Type 0
+SerialRunIsRight = (statements : List Statement) → IsRightRun (record { conn = 0; statements = statements } ∷ []) (played_alone statements)

@@ -1,0 +1,9 @@
+pub mod Database
+pub mod Front
+pub mod History
+pub mod Input
+pub mod Laws
+pub mod Played
+pub mod RightOutput
+pub mod Run
+pub mod Transactions

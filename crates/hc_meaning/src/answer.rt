@@ -1,0 +1,26 @@
+use hc_reply::{Line, Row};
+use sqlite_items::Items;
+
+/// The rows `(id, v)` of the table, in ascending order of `id`.
+pub type Db = Items<(i64, i64)>;
+
+/// A reply without its ending: what a statement answers, wherever transactions end.
+#[derive(Debug, Drop)]
+pub struct Answer {
+    pub rows: Items<Row>,
+    pub last: Line,
+}
+
+/// What one statement answers, and the database after it.
+#[derive(Debug, Drop)]
+pub struct Outcome {
+    pub answer: Answer,
+    pub db: Db,
+}
+
+/// What a list of statements answers, and the database after them.
+#[derive(Debug, Drop)]
+pub struct Ran {
+    pub answers: Items<Answer>,
+    pub db: Db,
+}

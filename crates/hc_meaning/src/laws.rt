@@ -1,0 +1,22 @@
+// What follows from the definitions alone. Each law is the contract of a function that does nothing.
+ghost use Rattle.hc_meaning.specs.Laws.{EveryStateIsInOrder, HasOneReading, RunKeepsIdsInOrder, SerialRunIsRight};
+
+/// Whatever bytes are read, they are the script of one list of statements at most.
+pub fn a_script_has_one_reading()
+    ensures { HasOneReading }
+{}
+
+/// A statement keeps the ids of a database in ascending order, so each stands once.
+pub fn a_run_keeps_ids_in_order()
+    ensures { RunKeepsIdsInOrder }
+{}
+
+/// The ids ascend after any number of a history's transactions.
+pub fn every_state_is_in_order()
+    ensures { EveryStateIsInOrder }
+{}
+
+/// Whatever the setup script's statements are, their run one after another is right.
+pub fn a_serial_run_is_right()
+    ensures { SerialRunIsRight }
+{}

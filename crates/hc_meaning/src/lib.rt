@@ -1,0 +1,22 @@
+//! What a right run is: the definitions that the program's main contract cites.
+//!
+//! `specs/RightOutput.antt` says when printed bytes are a right output for an input. It rests on
+//! the language that is read (`Input`), the database and what a statement does to it (`Database`,
+//! `Run`), the cut of a connection's replies into transactions (`Transactions`) and the history of
+//! the commits (`History`). These definitions know lists and a fold, and nothing of the program.
+//!
+//! Beside them stands `plain`, a slow program that computes them, so that they can be tried on
+//! small inputs. Nothing else uses it. `laws` states what follows from the definitions alone.
+#![tactic(auto)]
+
+mod answer;
+pub mod laws;
+pub mod plain;
+mod statement;
+#[cfg(test)]
+mod tests;
+mod transaction;
+
+pub use answer::{Answer, Db, Outcome, Ran};
+pub use statement::Statement;
+pub use transaction::{Script, Transaction};

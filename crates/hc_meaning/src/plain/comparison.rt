@@ -1,0 +1,87 @@
+// Whether two answers are the same.
+ghost use Rattle.std.specs.Prelude.{◌≡◌, ◌↔◌, IsTrue};
+
+use crate::Answer;
+use hc_reply::{Line, Refusal, Row};
+use hc_value::Value;
+
+/// Whether two statements answered the same: the same rows in the same order, and the same last
+/// line.
+pub fn same_answer(a: &Answer, b: &Answer) -> bool
+    ensures { IsTrue result ↔ (a.now ≡ b.now) }
+{
+    same_rows(a.rows.as_slice(), b.rows.as_slice()) && same_line(&a.last, &b.last)
+}
+
+/// Whether two lists of answers are the same, one by one.
+pub fn same_answers(a: &[Answer], b: &[Answer]) -> bool
+    ensures { IsTrue result ↔ (a.now ≡ b.now) }
+{
+    if a.len() != b.len() {
+        return false;
+    }
+    for (i, x) in a.iter().enumerate() {
+        if !same_answer(x, &b[i]) {
+            return false;
+        }
+    }
+    true
+}
+
+fn same_rows(a: &[Row], b: &[Row]) -> bool
+    ensures { IsTrue result ↔ (a.now ≡ b.now) }
+{
+    if a.len() != b.len() {
+        return false;
+    }
+    for (i, x) in a.iter().enumerate() {
+        if !same_row(x, &b[i]) {
+            return false;
+        }
+    }
+    true
+}
+
+fn same_row(a: &Row, b: &Row) -> bool
+    ensures { IsTrue result ↔ (a.now ≡ b.now) }
+{
+    same_values(a.values.as_slice(), b.values.as_slice())
+}
+
+fn same_values(a: &[Value], b: &[Value]) -> bool
+    ensures { IsTrue result ↔ (a.now ≡ b.now) }
+{
+    if a.len() != b.len() {
+        return false;
+    }
+    for (i, x) in a.iter().enumerate() {
+        if *x != b[i] {
+            return false;
+        }
+    }
+    true
+}
+
+fn same_line(a: &Line, b: &Line) -> bool
+    ensures { IsTrue result ↔ (a.now ≡ b.now) }
+{
+    match (a, b) {
+        (Line::Ok(m), Line::Ok(n)) => *m == *n,
+        (Line::Error(m), Line::Error(n)) => same_refusal(m, n),
+        _ => false,
+    }
+}
+
+fn same_refusal(a: &Refusal, b: &Refusal) -> bool
+    ensures { IsTrue result ↔ (a.now ≡ b.now) }
+{
+    let Refusal::Primary {
+        table: table_a,
+        name: name_a,
+    } = a;
+    let Refusal::Primary {
+        table: table_b,
+        name: name_b,
+    } = b;
+    table_a.as_bytes() == table_b.as_bytes() && name_a.as_bytes() == name_b.as_bytes()
+}

@@ -1,0 +1,7 @@
+-- The replies so far are written.
+use Rattle.std.proofs.Common.{◌≡◌, ◌++◌, take, flat_map}
+use Rattle.hc_reply.specs.Output.{reply_text}
+use Rattle.hc_reply.proofs.printer.print_transcript.Given as goal
+
+abbrev pub invariant-loop-reply : goal.invariant-loop-reply
+invariant-loop-reply l = l.out.items ≡ l.initial.out.items ++ flat_map reply_text (take l.reply-index l.reply-items)

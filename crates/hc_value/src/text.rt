@@ -1,0 +1,48 @@
+ghost use Rattle.std.specs.Prelude.{◌≡◌, IfOk, string_bytes};
+
+use crate::NoMemory;
+use std::alloc::Global;
+use std::marker::Model;
+
+/// An owned text, which is UTF-8 by its type. A contract sees the list of its bytes.
+#[derive(Debug, Drop)]
+pub struct Str {
+    text: String,
+}
+
+impl Model for Str {
+    ghost use Rattle.std.specs.Prelude.{List, ℕ, string_bytes};
+
+    ghost Value = { List ℕ };
+
+    ghost view = { λ s. string_bytes s.text };
+}
+
+impl Str {
+    /// A copy of a borrowed text.
+    pub fn from_text(alloc: Global, text: &str) -> Result<Str, NoMemory>
+        ensures { IfOk result (λ s. s ≡ text.now) }
+    {
+        let text = String::from_str(alloc, text)?;
+        Ok(Str { text })
+    }
+
+    /// Takes over a text without copying it.
+    pub fn from_string(text: String) -> Str
+        ensures { result ≡ string_bytes text }
+    {
+        Str { text }
+    }
+
+    pub fn as_str(&self) -> &str
+        ensures { result.now ≡ self.now }
+    {
+        self.text.as_str()
+    }
+
+    pub fn as_bytes(&self) -> &[u8]
+        ensures { result.now ≡ self.now }
+    {
+        self.text.as_bytes()
+    }
+}

@@ -1,0 +1,58 @@
+-- From what was read to what the whole input is: it is a right output's input, or none.
+use Rattle.std.proofs.Common.{◌≡◌, ◌∙◌, ap, sym, subst, ℕ, ◌≤◌, List, [], ◌++◌, length, Option, Some, None, refl, arith, ⊎_elim, length-append}
+use Rattle.std.proofs.lemmas.List.{append-nil}
+use Rattle.hc_reply.specs.Output.{output_text}
+use Rattle.hc_meaning.specs.declared.statement.Statement.{Statement}
+use Rattle.hc_meaning.specs.declared.transaction.Script.{Script}
+use Rattle.hc_meaning.specs.Input.{IsInput, IsScript}
+use Rattle.hc_meaning.specs.Played.{played_alone}
+use Rattle.hc_meaning.specs.RightOutput.{IsRightOutput}
+use Rattle.hc_meaning.proofs.Alone.{setup_of, right-alone}
+use Rattle.hctree.specs.declared.script.ScriptError.{ScriptError}
+use Rattle.hctree.specs.declared.script.ScriptError.TheVariants.{Unbuilt, NoMemory}
+use Rattle.hctree.specs.Causes.{IsNoInput, IsCauseOfNone, status_of_script}
+use Rattle.hctree.specs.Streams.{ReadsAllOrMost, ReadsAllOrMostIfTold}
+use Rattle.hctree.specs.TopCall.{IsRightOutputIfTold, ReadsToEnd}
+
+-- an input within the limit was read whole
+read_whole : (left rest input : List ℕ) → ReadsAllOrMost left rest input → length input ≤ 16777216 → (left ≡ input) × (rest ≡ [])
+read_whole left rest input reads within =
+    ⊎_elim (λ (all : rest ≡ []). (reads.bytes ∙ ap (λ (l : List ℕ). input ++ l) all ∙ append-nil input, all))
+    (λ most. absurd (omega (arith, within, most)))
+    reads.all_or_most
+
+right_alone : (input output : List ℕ) (statements : List Statement) → IsScript input statements → length input ≤ 16777216 → length statements ≤ 65535 → output ≡ output_text (played_alone statements) → IsRightOutput input output
+right_alone input output statements script bytes many is = record {
+  scripts = setup_of statements;
+  is_input = (statements, script, bytes, many, refl);
+  transcripts = played_alone statements;
+  is_output = is;
+  is_run = right-alone statements;
+}
+
+module _ (input output : List ℕ) (statements : List Statement) (script : IsScript input statements) (bytes : length input ≤ 16777216) where
+  pub right_if_told : (left after : Option (List ℕ)) → ReadsAllOrMostIfTold left after input → length statements ≤ 65535 → output ≡ output_text (played_alone statements) → IsRightOutputIfTold left output
+  right_if_told None after reads many is = tt
+  right_if_told (Some left) None reads many is = absurd reads
+  right_if_told (Some left) (Some rest) reads many is =
+      subst (λ (l : List ℕ). IsRightOutput l output) (sym (read_whole left rest input reads bytes).0) (right_alone input output statements script bytes many is)
+
+pub to_end_if_told : (left after : Option (List ℕ)) (input : List ℕ) → ReadsAllOrMostIfTold left after input → length input ≤ 16777216 → ReadsToEnd left after
+to_end_if_told None after input reads bytes = tt
+to_end_if_told (Some left) None input reads bytes = absurd reads
+to_end_if_told (Some left) (Some rest) input reads bytes = ap Some (read_whole left rest input reads bytes).1
+
+-- what was read is no input, so the whole is none
+pub no_input_if_told : (left after : Option (List ℕ)) (input : List ℕ) → ReadsAllOrMostIfTold left after input → ((scripts : List Script) → IsInput input scripts → ⊥) → IsNoInput left
+no_input_if_told None after input reads none = tt
+no_input_if_told (Some left) None input reads none = absurd reads
+no_input_if_told (Some left) (Some rest) input reads none = λ scripts whole.
+    ⊎_elim (λ (all : rest ≡ []). none scripts (subst (λ (l : List ℕ). IsInput l scripts) (reads.bytes ∙ ap (λ (l : List ℕ). input ++ l) all ∙ append-nil input) whole))
+    (λ most. absurd (omega (arith, most, whole.2, ap length reads.bytes, length-append input rest)))
+    reads.all_or_most
+
+-- why the script was not read is why no output is made
+pub cause_of_script : (left after : Option (List ℕ)) (input : List ℕ) (before now : ℕ) (error : ScriptError) → ReadsAllOrMostIfTold left after input → (error ≡ Unbuilt → (scripts : List Script) → IsInput input scripts → ⊥)
+    → IsCauseOfNone left before now (status_of_script error)
+cause_of_script left after input before now Unbuilt reads none = (refl, no_input_if_told left after input reads (none refl))
+cause_of_script left after input before now NoMemory reads none = tt

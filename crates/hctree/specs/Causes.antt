@@ -1,0 +1,52 @@
+-- When the program may end in each status other than Done.
+use Rattle.std.specs.Prelude.{◌≡◌, ℕ, List, Option, None, Some, ⊤}
+use Rattle.hc_meaning.specs.declared.transaction.Script.{Script}
+use Rattle.hc_meaning.specs.Input.{IsInput}
+use Rattle.hc_io.specs.Faults.{Rose}
+use Rattle.hctree.specs.declared.reading.ReadError.{ReadError}
+use Rattle.hctree.specs.declared.reading.ReadError.TheVariants.{Fault, NoMemory as ReadNoMemory}
+use Rattle.hctree.specs.declared.script.ScriptError.{ScriptError}
+use Rattle.hctree.specs.declared.script.ScriptError.TheVariants.{Unbuilt as ScriptUnbuilt, NoMemory as ScriptNoMemory}
+use Rattle.hctree.specs.declared.status.InputKind.{InputKind}
+use Rattle.hctree.specs.declared.status.InputKind.TheVariants.{Unbuilt}
+use Rattle.hctree.specs.declared.status.Status.{Status}
+use Rattle.hctree.specs.declared.status.Status.TheVariants.{Done, Input, ReadFault, WriteFault, Words, NoMemory}
+
+abbrev pub exit_number_of : Status → ℕ
+exit_number_of Done = 0
+exit_number_of (Input at kind) = 1
+exit_number_of ReadFault = 2
+exit_number_of WriteFault = 3
+exit_number_of Words = 4
+exit_number_of NoMemory = 7
+
+abbrev pub status_of_read : ReadError → Status
+status_of_read Fault = ReadFault
+status_of_read ReadNoMemory = NoMemory
+
+abbrev pub status_of_script : ScriptError → Status
+status_of_script ScriptUnbuilt = Input 0 Unbuilt
+status_of_script ScriptNoMemory = NoMemory
+
+-- the bytes are no input, where the source tells them
+abbrev pub IsNoInput : Option (List ℕ) → Type 0
+IsNoInput None = ⊤
+IsNoInput (Some input) = (scripts : List Script) → IsInput input scripts → ⊥
+
+-- the source tells its bytes, and they are an input
+abbrev pub IsSomeInput : Option (List ℕ) → Type 0
+IsSomeInput None = ⊥
+IsSomeInput (Some input) = (scripts : List Script) × IsInput input scripts
+
+-- the place and kind of an input's fault
+abbrev pub IsInputFault : Option (List ℕ) → ℕ → InputKind → Type 0
+IsInputFault left at Unbuilt = (at ≡ 0) × IsNoInput left
+
+-- why no output was made for what the source had left, with its counts of faults before and after
+abbrev pub IsCauseOfNone : Option (List ℕ) → ℕ → ℕ → Status → Type 0
+IsCauseOfNone left before now Done = ⊥
+IsCauseOfNone left before now (Input at kind) = IsInputFault left at kind
+IsCauseOfNone left before now ReadFault = Rose before now
+IsCauseOfNone left before now WriteFault = ⊥
+IsCauseOfNone left before now Words = ⊥
+IsCauseOfNone left before now NoMemory = ⊤

@@ -1,0 +1,100 @@
+// The program over memory. Expected outputs were worked out by hand from the rules that docs/PROGRAM.md
+// tells.
+use crate::status::{InputKind, Status};
+use crate::top::top_step;
+use hc_io::{MemSink, MemSource};
+use hc_value::{Bytes, NoMemory, Str};
+use sqlite_items::Items;
+use std::alloc::Global;
+use std::test::Fail;
+
+const UNBUILT: Status = Status::Input {
+    at: 0,
+    kind: InputKind::Unbuilt,
+};
+
+fn source_of(alloc: Global, input: &str) -> Result<MemSource, NoMemory> {
+    let bytes = Bytes::from_slice(alloc, input.as_bytes())?;
+    Ok(MemSource::new(bytes, Items::new(alloc)))
+}
+
+fn words_of(alloc: Global, words: &[&str]) -> Result<Vec<Str>, NoMemory> {
+    let mut all = Vec::new(alloc);
+    for word in words {
+        all.push(Str::from_text(alloc, word)?)?;
+    }
+    Ok(all)
+}
+
+// Runs the program on an input, with a sink that takes seven bytes a call.
+fn run(alloc: Global, words: &[&str], input: &str) -> Result<(Status, MemSink), NoMemory> {
+    let words = words_of(alloc, words)?;
+    let mut source = source_of(alloc, input)?;
+    let mut sink = MemSink::new(alloc, 4096, 7, Items::new(alloc))?;
+    let status = top_step(alloc, &words, &mut source, &mut sink);
+    Ok((status, sink))
+}
+
+#[test]
+fn scripts_give_their_outputs(rt: HostRuntime) -> Result<(), Fail> {
+    let cases = [
+        (
+            "INSERT INTO t VALUES(1,10); SELECT v FROM t WHERE id=1;",
+            "conn 0\nok 1\ncommit 1\nrow 10\nok 1\nsnapshot 1\n",
+        ),
+        (
+            "INSERT INTO t VALUES(1,10); INSERT INTO t VALUES(1,11);",
+            "conn 0\nok 1\ncommit 1\nerror 1555 't' 'id'\nrolled back 1\n",
+        ),
+        ("SELECT v FROM t WHERE id=9;", "conn 0\nok 0\nsnapshot 0\n"),
+        ("", ""),
+        (" \n \n", ""),
+        (
+            "\nINSERT INTO t VALUES(9223372036854775807,0);INSERT INTO t VALUES(0,9223372036854775807);\nSELECT v FROM t WHERE id=0;\nSELECT v FROM t WHERE id=9223372036854775807;\n",
+            "conn 0\nok 1\ncommit 1\nok 1\ncommit 2\nrow 9223372036854775807\nok 1\nsnapshot 2\nrow 0\nok 1\nsnapshot 2\n",
+        ),
+    ];
+    for (input, output) in cases {
+        let (status, sink) = run(rt.alloc(), &[], input)?;
+        assert_eq!(rt; status, Status::Done, "for {input}");
+        assert_eq!(rt; sink.written.as_slice(), output.as_bytes(), "for {input}");
+    }
+    Ok(())
+}
+
+#[test]
+fn what_is_not_built_is_refused_whole(rt: HostRuntime) -> Result<(), Fail> {
+    let first_alone = "INSERT INTO t VALUES(1,10); DELETE";
+    for input in ["DELETE", "SELECT v FROM t WHERE id=-1;", first_alone, "\0"] {
+        let (status, sink) = run(rt.alloc(), &[], input)?;
+        assert_eq!(rt; status, UNBUILT, "for {input}");
+        assert_eq!(rt; (sink.written.len(), sink.calls), (0, 0), "for {input}");
+    }
+    Ok(())
+}
+
+#[test]
+fn words_are_none_or_the_mode_step(rt: HostRuntime) -> Result<(), Fail> {
+    let script = "SELECT v FROM t WHERE id=9;";
+    let cases = [
+        ([].as_slice(), Status::Done),
+        (&["--mode", "step"], Status::Done),
+        (&["--mode"], Status::Words),
+        (&["--mode", "run"], Status::Words),
+        (&["--mode=step"], Status::Words),
+        (&["step", "--mode"], Status::Words),
+        (&["--mode", "step", "--mode"], Status::Words),
+        (&["--pages", "16"], Status::Words),
+        (&[""], Status::Words),
+    ];
+    for (words, want) in cases {
+        let (status, sink) = run(rt.alloc(), words, script)?;
+        assert_eq!(rt; status, want, "for {words:?}");
+        assert_eq!(rt;
+            sink.written.is_empty(),
+            want == Status::Words,
+            "for {words:?}"
+        );
+    }
+    Ok(())
+}
