@@ -4,9 +4,8 @@
 //! Each keeps a count of faults that never falls, and fails only where the count rose: so a
 //! program over them cannot claim a failure that did not happen. `MemSource` and `MemSink` tell
 //! everything and fail at the calls that a test lists, a sink also where its room is gone;
-//! `SureSource` never fails. `StdSource`
-//! and `StdSink` stand over the real streams and tell no bytes: what a file or a terminal carries
-//! is not proved.
+//! `SureSource` never fails. `StdSource` and `StdSink` stand over the real streams and tell no
+//! bytes: what a file or a terminal carries is not proved.
 #![tactic(auto)]
 
 mod listed;

@@ -11,6 +11,7 @@ use std::alloc::Global;
 /// Memory to write to, of a size that was reserved. Some writes fail, and each takes few bytes.
 #[derive(Debug, Drop)]
 pub struct MemSink {
+    /// All that was written, in order.
     pub written: Vec<u8>,
     /// How many more bytes it takes.
     pub room: u64,

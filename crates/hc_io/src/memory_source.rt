@@ -11,6 +11,7 @@ use sqlite_items::Items;
 /// Bytes in memory, some of whose reads fail.
 #[derive(Debug, Drop)]
 pub struct MemSource {
+    /// All its bytes, those that were read too.
     pub bytes: Bytes,
     /// How many bytes were read.
     pub at: u64,
@@ -25,6 +26,7 @@ pub struct MemSource {
 /// Bytes in memory whose reads never fail.
 #[derive(Debug, Drop)]
 pub struct SureSource {
+    /// All its bytes, those that were read too.
     pub bytes: Bytes,
     /// How many bytes were read.
     pub at: u64,

@@ -27,6 +27,7 @@ pub struct StdSink<W> {
 }
 
 impl<R> StdSource<R> {
+    /// A source over the reader, of which no read has failed yet.
     pub fn new(reader: R) -> StdSource<R>
         ensures reader { reader_of result ≡ reader }
         ensures faults { failed_reads result ≡ 0 }
@@ -36,6 +37,7 @@ impl<R> StdSource<R> {
 }
 
 impl<W> StdSink<W> {
+    /// A sink over the writer, of which no write has failed yet.
     pub fn new(writer: W) -> StdSink<W>
         ensures writer { writer_of result ≡ writer }
         ensures faults { failed_writes result ≡ 0 }

@@ -2,7 +2,8 @@
 use Rattle.std.proofs.Common.{◌≡◌, ◌≢◌, ◌∙◌, ap, sym, subst, refl, inl, inr, arith, append_assoc, lit<, ℕ, ◌<◌, List, [], ◌∷◌, ◌++◌, codes}
 use Rattle.std.specs.List.{AllByRecursion}
 use Rattle.hc_meaning.specs.declared.statement.Statement.{Statement}
-use Rattle.hc_meaning.specs.Front.{BeginsWith, BeginsOutside, IsBlankByte}
+use Rattle.hc_meaning.specs.Front.{BeginsWith, BeginsOutside}
+use Rattle.hc_meaning.specs.Input.{IsBlankByte}
 use Rattle.hc_meaning.specs.Input.{IsBlank, IsScript, IsStatement}
 use Rattle.hc_meaning.proofs.Spans.{same_span}
 use Rattle.hc_meaning.proofs.Statements.{statement_head, statement_once}

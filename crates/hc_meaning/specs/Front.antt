@@ -1,6 +1,6 @@
 -- What stands at the front of bytes: a text with what it means, and the rest behind it.
-use Rattle.std.specs.Prelude.{◌≡◌, ◌⊎◌, ℕ, ◌≤◌, ℤ, List, [], ◌∷◌, ◌++◌, ⊤}
-use Rattle.hc_meaning.specs.Input.{IsBlank, IsNumber}
+use Rattle.std.specs.Prelude.{◌≡◌, ℕ, ◌≤◌, ℤ, List, [], ◌∷◌, ◌++◌, ⊤}
+use Rattle.hc_meaning.specs.Input.{IsBlank, IsBlankByte, IsNumber}
 
 -- a text with this meaning stands at the front, and `rest` behind it
 abbrev pub BeginsWith : {A : Type 0} → (List ℕ → A → Type 0) → List ℕ → A → List ℕ → Type 0
@@ -10,10 +10,6 @@ BeginsWith IsText bytes meaning rest = (text : List ℕ) × IsText text meaning 
 abbrev pub BeginsOutside : (ℕ → Type 0) → List ℕ → Type 0
 BeginsOutside P [] = ⊤
 BeginsOutside P (b ∷ bytes) = ¬ P b
-
--- a space or a line feed
-abbrev pub IsBlankByte : ℕ → Type 0
-IsBlankByte b = (b ≡ 32) ⊎ (b ≡ 10)
 
 abbrev pub IsDigit : ℕ → Type 0
 IsDigit b = (48 ≤ b) × (b ≤ 57)

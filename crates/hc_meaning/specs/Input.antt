@@ -5,9 +5,13 @@ use Rattle.hc_meaning.specs.declared.statement.Statement.{Statement}
 use Rattle.hc_meaning.specs.declared.statement.Statement.TheVariants.{Insert, Select}
 use Rattle.hc_meaning.specs.declared.transaction.Script.{Script}
 
--- any number of spaces (32) and line feeds (10)
+-- a space or a line feed
+abbrev pub IsBlankByte : ℕ → Type 0
+IsBlankByte b = (b ≡ 32) ⊎ (b ≡ 10)
+
+-- any number of them
 abbrev pub IsBlank : List ℕ → Type 0
-IsBlank text = AllByRecursion (λ b. (b ≡ 32) ⊎ (b ≡ 10)) text
+IsBlank text = AllByRecursion IsBlankByte text
 
 -- `0`, or decimal digits that do not begin with 0, up to the greatest i64
 abbrev pub IsNumber : List ℕ → ℤ → Type 0
@@ -31,3 +35,11 @@ IsScript text (statement ∷ statements) = (blank written rest : List ℕ) × Is
 abbrev pub IsInput : List ℕ → List Script → Type 0
 IsInput input scripts = (statements : List Statement) × IsScript input statements
     × (length input ≤ 16777216) × (length statements ≤ 65535) × (scripts ≡ record { conn = 0; statements = statements } ∷ [])
+
+-- the bytes are an input
+abbrev pub IsOfForm : List ℕ → Type 0
+IsOfForm input = (scripts : List Script) × IsInput input scripts
+
+-- they are none: not in the language, or over one of its limits
+abbrev pub BreaksForm : List ℕ → Type 0
+BreaksForm input = (scripts : List Script) → IsInput input scripts → ⊥

@@ -1,5 +1,5 @@
 -- When printed bytes are a right output for an input.
-use Rattle.std.specs.Prelude.{◌≡◌, ◌≢◌, ◌↔◌, ℕ, ◌<◌, ◌≤◌, List, length, Some, Contains, slice_get}
+use Rattle.std.specs.Prelude.{◌≡◌, ◌≢◌, ◌↔◌, ⊤, ℕ, ◌<◌, ◌≤◌, List, length, Some, Contains, slice_get}
 use Rattle.hc_reply.specs.declared.reply.Ending.{Ending}
 use Rattle.hc_reply.specs.declared.reply.Ending.TheVariants.{Commit, Snapshot, RolledBack}
 use Rattle.hc_reply.specs.declared.reply.Transcript.{Transcript}
@@ -13,7 +13,7 @@ use Rattle.hc_meaning.specs.Input.{IsInput}
 
 -- it is a commit's ending
 abbrev pub IsCommitted : Ending → Type 0
-IsCommitted (Commit k) = Unit {0}
+IsCommitted (Commit k) = ⊤
 IsCommitted (Snapshot s) = ⊥
 IsCommitted (RolledBack s) = ⊥
 
@@ -27,7 +27,7 @@ pub record IsReadAt (history : List Transaction) (s : ℕ) (t : Transaction) : T
 
 -- the same at the number of its ending, which stands apart so that it can be matched
 abbrev pub IsReadUnlessCommitted : List Transaction → Transaction → Ending → Type 0
-IsReadUnlessCommitted history t (Commit k) = Unit {0}
+IsReadUnlessCommitted history t (Commit k) = ⊤
 IsReadUnlessCommitted history t (Snapshot s) = IsReadAt history s t
 IsReadUnlessCommitted history t (RolledBack s) = IsReadAt history s t
 

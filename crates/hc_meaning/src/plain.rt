@@ -1,5 +1,6 @@
-//! The plain, slow program beside the definitions: it computes each of them on small inputs by
-//! walks and copies, and its contracts are the definitions themselves.
+//! The plain, slow program beside the definitions: it computes what statements answer, the cut into
+//! transactions and the state after a number of commits, by walks and copies on small inputs. Its
+//! contracts are the definitions themselves.
 
 mod comparison;
 mod cutting;

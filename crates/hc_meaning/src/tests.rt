@@ -30,6 +30,10 @@ enum Finding {
     OtherNumbers,
     /// The statements answer otherwise on the database that the ending names.
     OtherAnswers,
+    /// A commit changed nothing, or a snapshot something.
+    OtherWrites,
+    /// A number falls, or a commit's is not above the one before it.
+    OtherOrder,
 }
 
 #[test]
@@ -44,7 +48,7 @@ fn replies_are_right_or_told_apart(rt: HostRuntime) -> Result<(), Fail> {
     let committed_next = (Lines::Count(1), Some(Ending::Commit(2)));
     let taken = (Lines::Duplicate, Some(Ending::RolledBack(1)));
 
-    let table: [(&str, &[Statement], &[(Lines, Option<Ending>)], Finding); 11] = [
+    let table: [(&str, &[Statement], &[(Lines, Option<Ending>)], Finding); 14] = [
         (
             "a row is read back",
             &[first, read],
@@ -115,6 +119,24 @@ fn replies_are_right_or_told_apart(rt: HostRuntime) -> Result<(), Fail> {
             &[committed, committed_next],
             Finding::OtherAnswers,
         ),
+        (
+            "a snapshot of an insertion",
+            &[first],
+            &[(Lines::Count(1), Some(Ending::Snapshot(0)))],
+            Finding::OtherWrites,
+        ),
+        (
+            "a commit of a query",
+            &[absent],
+            &[(Lines::Count(0), Some(Ending::Commit(1)))],
+            Finding::OtherWrites,
+        ),
+        (
+            "a snapshot from before the last commit",
+            &[first, absent],
+            &[committed, (Lines::Count(0), Some(Ending::Snapshot(0)))],
+            Finding::OtherOrder,
+        ),
     ];
     for (name, statements, printed, want) in table {
         let found = judge(&rt, rt.alloc(), statements, printed)?;
@@ -154,8 +176,40 @@ fn judge(
         if !same_answers(ran.answers.as_slice(), transaction.answers.as_slice()) {
             return Ok(Finding::OtherAnswers);
         }
+        let writes = ran.db.as_slice() != db.as_slice();
+        if !may_write(transaction.ending, writes) {
+            return Ok(Finding::OtherWrites);
+        }
+    }
+    for pair in transactions.windows(2) {
+        if let [one, next] = pair {
+            if !may_follow(one.ending, next.ending) {
+                return Ok(Finding::OtherOrder);
+            }
+        }
     }
     Ok(Finding::Right)
+}
+
+fn may_write(ending: Ending, writes: bool) -> bool {
+    match ending {
+        Ending::Commit(_) => writes,
+        Ending::Snapshot(_) => !writes,
+        Ending::RolledBack(_) => true,
+    }
+}
+
+fn may_follow(one: Ending, next: Ending) -> bool {
+    match (number(one), next) {
+        (before, Ending::Commit(k)) => before < k,
+        (before, Ending::Snapshot(s) | Ending::RolledBack(s)) => before <= s,
+    }
+}
+
+fn number(ending: Ending) -> u32 {
+    match ending {
+        Ending::Commit(n) | Ending::Snapshot(n) | Ending::RolledBack(n) => n,
+    }
 }
 
 // How many commits the database counts that a transaction ran on.

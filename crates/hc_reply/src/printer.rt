@@ -1,8 +1,8 @@
 // The text of each part of an answer, written behind what is there.
-ghost use Rattle.std.specs.Prelude.{◌≡◌, ◌≢◌, [], ◌∷◌, ◌++◌, map, codes, decimal, flat_map, IfOk, OnOk};
+ghost use Rattle.std.specs.Prelude.{◌≡◌, ◌≢◌, [], ◌∷◌, ◌++◌, map, IfOk, OnOk};
 ghost use Rattle.std.specs.List.{AllByRecursion, join_with_byte};
 ghost use Rattle.std.specs.List.Sorted.{IsStrictlyIncreasing};
-ghost use Rattle.hc_reply.specs.Output.{quoted, doubled, value_text, row_text, refusal_text, last_text, ending_text, ending_text_if, reply_text, transcript_text, output_text};
+ghost use Rattle.hc_reply.specs.Output.{quoted, value_text, row_text, refusal_text, last_text, ending_text_if, reply_text, transcript_text, output_text};
 
 use crate::{Ending, Line, Refusal, Reply, Row, Transcript};
 use hc_value::{Bytes, NoMemory, Str, Value};

@@ -4,6 +4,7 @@ use sqlite_items::Items;
 /// One row of a query's result: its values, from the left.
 #[derive(Debug, Drop)]
 pub struct Row {
+    /// From the left, one for each column of the result.
     pub values: Items<Value>,
 }
 
@@ -39,6 +40,7 @@ pub enum Ending {
 pub struct Reply {
     /// The rows that a query gave, in order.
     pub rows: Items<Row>,
+    /// How the statement went.
     pub last: Line,
     /// Where a transaction ended with this statement, how.
     pub ending: Option<Ending>,
@@ -49,5 +51,6 @@ pub struct Reply {
 pub struct Transcript {
     /// The connection's number. The setup script is connection 0.
     pub conn: u32,
+    /// In the order of the statements.
     pub replies: Items<Reply>,
 }

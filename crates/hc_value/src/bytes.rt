@@ -34,6 +34,7 @@ impl Bytes {
         Bytes { bytes }
     }
 
+    /// The bytes, in order.
     pub fn as_slice(&self) -> &[u8]
         ensures { result.now ≡ self.now }
     {

@@ -1,5 +1,6 @@
 mod Absent
 mod Numbers
+mod Outcomes
 mod Progress
 mod Right
 mod Selected

@@ -3,7 +3,8 @@
 use Rattle.std.proofs.Common.{◌≡◌, ◌≢◌, ◌∙◌, sym, subst, ap, refl, arith, append_assoc, length-append, eqb-true, true, false, ◌==◌, ℕ, ◌+◌, ◌<◌, List, [], ◌∷◌, ◌++◌, length}
 use Rattle.std.proofs.lemmas.List.{append-nil, nil_from_length}
 use Rattle.hc_meaning.specs.declared.statement.Statement.{Statement}
-use Rattle.hc_meaning.specs.Front.{BeginsOutside, BeginsWith, BeginsWithBlank, IsBlankByte}
+use Rattle.hc_meaning.specs.Front.{BeginsOutside, BeginsWith, BeginsWithBlank}
+use Rattle.hc_meaning.specs.Input.{IsBlankByte}
 use Rattle.hc_meaning.specs.Input.{IsScript, IsStatement}
 use Rattle.hc_meaning.proofs.Scripts.{First, script_behind_front, script_first, script_from_first, script_from_front}
 use Rattle.hc_meaning.proofs.Statements.{statement_once}

@@ -3,14 +3,13 @@ use Rattle.std.proofs.Common.{◌≡◌, ◌∙◌, ap, sym, subst, ℕ, ◌≤�
 use Rattle.std.proofs.lemmas.List.{append-nil}
 use Rattle.hc_reply.specs.Output.{output_text}
 use Rattle.hc_meaning.specs.declared.statement.Statement.{Statement}
-use Rattle.hc_meaning.specs.declared.transaction.Script.{Script}
-use Rattle.hc_meaning.specs.Input.{IsInput, IsScript}
+use Rattle.hc_meaning.specs.Input.{BreaksForm, IsInput, IsScript}
 use Rattle.hc_meaning.specs.Played.{played_alone}
 use Rattle.hc_meaning.specs.RightOutput.{IsRightOutput}
 use Rattle.hc_meaning.proofs.Alone.{setup_of, right-alone}
 use Rattle.hctree.specs.declared.script.ScriptError.{ScriptError}
 use Rattle.hctree.specs.declared.script.ScriptError.TheVariants.{Unbuilt, NoMemory}
-use Rattle.hctree.specs.Causes.{IsNoInput, IsCauseOfNone, status_of_script}
+use Rattle.hctree.specs.Causes.{BreaksFormIfTold, IsCauseOfNone, status_of_script}
 use Rattle.hctree.specs.Streams.{ReadsAllOrMost, ReadsAllOrMostIfTold}
 use Rattle.hctree.specs.TopCall.{IsRightOutputIfTold, ReadsToEnd}
 
@@ -43,7 +42,7 @@ to_end_if_told (Some left) None input reads bytes = absurd reads
 to_end_if_told (Some left) (Some rest) input reads bytes = ap Some (read_whole left rest input reads bytes).1
 
 -- what was read is no input, so the whole is none
-pub no_input_if_told : (left after : Option (List ℕ)) (input : List ℕ) → ReadsAllOrMostIfTold left after input → ((scripts : List Script) → IsInput input scripts → ⊥) → IsNoInput left
+pub no_input_if_told : (left after : Option (List ℕ)) (input : List ℕ) → ReadsAllOrMostIfTold left after input → BreaksForm input → BreaksFormIfTold left
 no_input_if_told None after input reads none = tt
 no_input_if_told (Some left) None input reads none = absurd reads
 no_input_if_told (Some left) (Some rest) input reads none = λ scripts whole.
@@ -52,7 +51,7 @@ no_input_if_told (Some left) (Some rest) input reads none = λ scripts whole.
     reads.all_or_most
 
 -- why the script was not read is why no output is made
-pub cause_of_script : (left after : Option (List ℕ)) (input : List ℕ) (before now : ℕ) (error : ScriptError) → ReadsAllOrMostIfTold left after input → (error ≡ Unbuilt → (scripts : List Script) → IsInput input scripts → ⊥)
+pub cause_of_script : (left after : Option (List ℕ)) (input : List ℕ) (before now : ℕ) (error : ScriptError) → ReadsAllOrMostIfTold left after input → (error ≡ Unbuilt → BreaksForm input)
     → IsCauseOfNone left before now (status_of_script error)
 cause_of_script left after input before now Unbuilt reads none = (refl, no_input_if_told left after input reads (none refl))
 cause_of_script left after input before now NoMemory reads none = tt

@@ -1,9 +1,22 @@
 -- One read after others, and one write after others.
-use Rattle.std.proofs.Common.{◌≡◌, ◌∙◌, ap, sym, ℕ, ◌+◌, ◌<◌, List, ◌++◌, length, take, drop, Option, Some, None, append_assoc}
+use Rattle.std.proofs.Common.{◌≤◌, ◌≡◌, ◌∙◌, ap, sym, ℕ, ◌+◌, ◌<◌, List, ◌++◌, length, take, drop, Option, Some, None, append_assoc}
 use Rattle.std.proofs.Math.Seq.{take-add}
 use Rattle.std.specs.Io.KnownBytes.{Consumes}
 use Rattle.hc_io.specs.Transfer.{ReadsIfTold, WritesIfTold}
 use Rattle.hctree.specs.TopCall.{ReadsToEnd}
+
+-- the first `at` bytes of the output are written, by a sink whose count of faults was first and is now
+pub record WrittenSoFar (before after : Option (List ℕ)) (output : List ℕ) (at first now : ℕ) : Type 0 where
+  pub within : at ≤ length output
+  pub written : WritesIfTold before after output at
+  pub count : first ≤ now
+
+-- the input was taken from the front of what was left, through a buffer of this size
+pub record ReadSoFar (left rest : Option (List ℕ)) (input : List ℕ) (size buffer first now : ℕ) : Type 0 where
+  pub taken : Consumes left rest input
+  pub within : size ≤ 16777217
+  pub buffer_size : buffer ≡ 65536
+  pub count : first ≤ now
 
 pub consumes-read : (left rest : Option (List ℕ)) (buffer : List ℕ) (n : ℕ) → ReadsIfTold left rest buffer n → Consumes left rest (take n buffer)
 consumes-read None rest buffer n reads = tt

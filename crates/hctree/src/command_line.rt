@@ -16,7 +16,8 @@ and line feeds around them:
   SELECT v FROM t WHERE id=N;
 
 The table t(id, v) is there from the start, and empty. Each N is a number
-from 0 to 9223372036854775807, without a sign or a leading zero.
+from 0 to 9223372036854775807, without a sign or a leading zero. A script
+has at most 65,535 statements and 16,777,216 bytes.
 
 Options:
   --mode step    run one whole statement after another; this is the default
@@ -32,7 +33,9 @@ const VERSION: &str = "hctree 0.1.0\n";
 /// What the program answers in place of running a script.
 #[derive(Clone, Copy)]
 pub enum Question {
+    /// How the program is used.
     Help,
+    /// Which version it is.
     Version,
 }
 

@@ -1,8 +1,9 @@
 //! The program `hctree`: it runs a SQL script on the engine and prints every reply.
 //!
-//! `top_step` in `top` runs the script, and its contract says that what it prints is right. The modules below it are its parts: the words of the command line, the reading of the
-//! input, the statements of the script, the database that they run on, and the writing of the
-//! output. `main` hands it the real streams, and tells a person what went wrong.
+//! `top_step` in `top` runs the script, and its contract says that what it prints is right. The
+//! modules below it are its parts: the words of the command line, the reading of the input, the
+//! statements of the script, the database that they run on, and the writing of the output. `main`
+//! hands it the real streams, and tells a person what went wrong.
 #![tactic(auto)]
 
 mod command_line;
@@ -20,7 +21,6 @@ mod writing;
 
 use crate::command_line::{Question, gather_words, question_in};
 use crate::fault::Fault;
-use crate::status::Status;
 use crate::top::top_step;
 use hc_io::{StdSink, StdSource};
 use hc_value::Str;

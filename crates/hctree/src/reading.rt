@@ -5,11 +5,12 @@ ghost use Rattle.hc_io.specs.Faults.{Rose};
 ghost use Rattle.hctree.specs.Streams.{Appended, ReadsAllOrMostIfTold};
 ghost use Rattle.hctree.specs.declared.reading.ReadError.TheVariants.{NoMemory};
 
+use crate::script::MAX_INPUT;
 use hc_io::Source;
 use std::alloc::{AllocError, Global};
 
-/// The most bytes that are read: one more than an input may have, so that a longer one is told.
-pub const MOST_READ: usize = 16_777_217;
+/// The most bytes that are read: one more than an input may have, so that a longer one is told apart.
+pub const MOST_READ: usize = MAX_INPUT + 1;
 
 const BUFFER_LEN: usize = 65_536;
 

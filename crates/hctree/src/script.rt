@@ -6,9 +6,8 @@
 ghost use Rattle.std.specs.Prelude.{◌≡◌, ◌≢◌, ◌<◌, ◌≤◌, ◌↔◌, ℕ, ℤ, List, ◌++◌, length, codes, IfOk, IfSome, IfNone, IsErrOf, IsTrue, MatchOption, slice_index};
 ghost use Rattle.std.specs.List.{AllByRecursion};
 ghost use Rattle.hc_meaning.specs.declared.statement.Statement.{Statement};
-ghost use Rattle.hc_meaning.specs.declared.transaction.Script.{Script};
 ghost use Rattle.hc_meaning.specs.Front.{BeginsOutside, BeginsWith, BeginsWithBlank, BeginsWithNumber, IsDigit};
-ghost use Rattle.hc_meaning.specs.Input.{IsInput, IsNumber, IsScript, IsStatement};
+ghost use Rattle.hc_meaning.specs.Input.{BreaksForm, IsNumber, IsScript, IsStatement};
 ghost use Rattle.hctree.specs.declared.script.ScriptError.TheVariants.{NoMemory};
 
 use hc_meaning::Statement;
@@ -43,7 +42,7 @@ pub fn read_script(alloc: Global, input: &[u8]) -> Result<Vec<Statement>, Script
     ensures read { IfOk result (λ statements. IsScript input.now statements.items) }
     ensures within_bytes { IfOk result (λ _. length input.now ≤ MAX_INPUT) }
     ensures within_statements { IfOk result (λ statements. length statements.items ≤ MAX_STATEMENTS) }
-    ensures unbuilt { IsErrOf result ScriptError.Unbuilt → (scripts : List Script) → ¬ IsInput input.now scripts }
+    ensures unbuilt { IsErrOf result ScriptError.Unbuilt → BreaksForm input.now }
 {
     if input.len() > MAX_INPUT {
         return Err(ScriptError::Unbuilt);

@@ -1,9 +1,10 @@
 // The top call: all that the program does.
-ghost use Rattle.std.specs.Prelude.{◌≡◌, ◌↔◌, ◌⊎◌, ◌≤◌, ℕ, IfOk, IfErr, OnOk};
+ghost use Rattle.std.specs.Prelude.{◌≡◌, ◌↔◌, ◌⊎◌, ◌≤◌, ℕ, IfOk, IfErr, IfSome, OnOk};
 ghost use Rattle.hc_io.specs.Faults.{Rose};
 ghost use Rattle.hctree.specs.declared.status.InputKind.{InputKind};
-ghost use Rattle.hctree.specs.Causes.{IsCauseOfNone, IsInputFault, IsNoInput, IsSomeInput};
-ghost use Rattle.hctree.specs.TopCall.{IsRightOutputIfTold, ReadsToEnd, WritesRightOutput, WritesFrontOfRightOutput};
+ghost use Rattle.hc_meaning.specs.Input.{BreaksForm, IsOfForm};
+ghost use Rattle.hctree.specs.Causes.{IsCauseOfNone, IsInputFault, OnNothingWritten, OnWriting, RefusesInput};
+ghost use Rattle.hctree.specs.TopCall.{IsRightOutputIfTold, ReadsToEnd, WritesFrontOfRightOutput, WritesRightOutput};
 ghost use Rattle.hctree.specs.Words.{AreStepWords};
 
 use crate::execution::run_script;
@@ -24,10 +25,30 @@ pub fn top_step<S: Source, K: Sink>(
     source: &mut S,
     sink: &mut K,
 ) -> Status
-    // What was written is a right output for the input, which was read to its end.
+    // What was written is a right output for the input, which was read to its end before.
     ensures right { result ≡ Status.Done
         → WritesRightOutput (S.left source.old) (K.written sink.old) (K.written sink.new) }
-    ensures read_to_end { result ≡ Status.Done → ReadsToEnd (S.left source.old) (S.left source.new) }
+    ensures read_to_end { OnWriting result (ReadsToEnd (S.left source.old) (S.left source.new)) }
+
+    // When each other status comes; `NoMemory` is free, but for words that are not of the form.
+    ensures words { (result ≡ Status.Words) ↔ (AreStepWords words.now → ⊥) }
+    ensures read_fault { result ≡ Status.ReadFault → Rose (S.faults source.old) (S.faults source.new) }
+    ensures input { (at : ℕ) (kind : InputKind) → result ≡ Status.Input at kind
+        → AreStepWords words.now × IsInputFault (S.left source.old) at kind }
+    ensures broken_form { IfSome (S.left source.old) (λ input.
+        BreaksForm input → AreStepWords words.now → RefusesInput result) }
+    ensures write_fault { result ≡ Status.WriteFault → Rose (K.faults sink.old) (K.faults sink.new) }
+    ensures good_form { IfSome (S.left source.old) (λ input.
+        IsOfForm input → AreStepWords words.now → (Rose (S.faults source.old) (S.faults source.new) → ⊥)
+        → (Rose (K.faults sink.old) (K.faults sink.new) → ⊥)
+        → (result ≡ Status.Done) ⊎ (result ≡ Status.NoMemory)) }
+
+    // What is read and written after them.
+    ensures unread { result ≡ Status.Words → source.new ≡ source.old }
+    ensures nothing { OnNothingWritten result (sink.new ≡ sink.old) }
+    ensures front { result ≡ Status.WriteFault
+        → WritesFrontOfRightOutput (S.left source.old) (K.written sink.old) (K.written sink.new) }
+    ensures counts { (S.faults source.old ≤ S.faults source.new) × (K.faults sink.old ≤ K.faults sink.new) }
 {
     if !are_step_words(words) {
         return Status::Words;

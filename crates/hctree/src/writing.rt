@@ -1,5 +1,5 @@
 // The output, written whole.
-ghost use Rattle.std.specs.Prelude.{◌≤◌, length, OnOk};
+ghost use Rattle.std.specs.Prelude.{length, OnOk};
 ghost use Rattle.hc_io.specs.Faults.{HasCause};
 ghost use Rattle.hc_io.specs.Transfer.{WritesIfTold};
 ghost use Rattle.hctree.specs.Streams.{WritesFront};

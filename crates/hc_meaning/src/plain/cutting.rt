@@ -1,5 +1,5 @@
 // A connection's statements with their replies, cut into transactions.
-ghost use Rattle.std.specs.Prelude.{◌≡◌, ◌^◌, ◌<◌, IfOk, IsTrue, length, option_map};
+ghost use Rattle.std.specs.Prelude.{◌≡◌, ◌^◌, ◌<◌, IfOk, length, option_map};
 ghost use Rattle.hc_meaning.specs.Transactions.{cut, may_end, own, own_if_ended};
 
 use crate::{Answer, Statement, Transaction};

@@ -3,7 +3,7 @@ ghost use Rattle.std.specs.Prelude.{◌≡◌, [], ◌∷◌, IfOk};
 ghost use Rattle.hc_meaning.specs.Run.{duplicate, run, run_all, selected};
 
 use crate::plain::rows;
-use crate::{Answer, Db, Outcome, Ran, Statement};
+use crate::{Answer, Outcome, Ran, Statement};
 use hc_reply::{Line, Refusal, Row};
 use hc_value::{NoMemory, Str, Value};
 use sqlite_items::Items;

@@ -1,6 +1,5 @@
 // What a database has at an id, and the database with one more row.
 ghost use Rattle.std.specs.Prelude.{◌≡◌, filter, IfOk, int_lt};
-ghost use Rattle.std.specs.Ordering.{int_eq};
 ghost use Rattle.hc_meaning.specs.Database.{rows_at, value_at, with_row};
 
 use crate::Db;
