@@ -1,8 +1,12 @@
 pub mod Alone
 mod Cuts
 mod Grown
+mod Judged
 pub mod Numbers
 mod OneConnection
+mod OnlyOutput
+mod OnlyRun
+mod Peeled
 mod Places
 mod Rows
 mod Runs
@@ -10,3 +14,6 @@ pub mod Scripts
 mod SoFar
 pub mod Spans
 pub mod Statements
+mod Steps
+mod Unique
+mod Walk

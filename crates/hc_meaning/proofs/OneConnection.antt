@@ -47,7 +47,7 @@ cut-played ordinal commits db (statement ∷ statements) =
     rw (may_end-after commits statement (run db statement).answer.last, cut-played (ordinal + 1) (commits_after commits db statement) (run db statement).db statements)
 
 -- what an INSERT puts at its id
-value_at-inserted : (db : Db) (id v : ℤ) → value_at (with_row db id v) id ≡ Some v
+pub value_at-inserted : (db : Db) (id v : ℤ) → value_at (with_row db id v) id ≡ Some v
 value_at-inserted db id v = let same : int_eq id id ≡ true = (Decides-int_eq id id).1 refl in value_at-with_row db id v id ∙ rw same
 
 -- After a statement with this outcome the history may have grown; what held so far holds on.

@@ -1,5 +1,6 @@
 -- Laws of these definitions, each shown by a function of `laws` with an empty body.
 use Rattle.std.specs.Prelude.{◌≡◌, ℕ, List, [], ◌∷◌}
+use Rattle.hc_reply.specs.declared.reply.Transcript.{Transcript}
 use Rattle.hc_meaning.specs.declared.statement.Statement.{Statement}
 use Rattle.hc_meaning.specs.declared.transaction.Transaction.{Transaction}
 use Rattle.hc_meaning.specs.Database.{Db, IsDb}
@@ -7,7 +8,7 @@ use Rattle.hc_meaning.specs.Run.{run}
 use Rattle.hc_meaning.specs.History.{state}
 use Rattle.hc_meaning.specs.Input.{IsScript}
 use Rattle.hc_meaning.specs.Played.{played_alone}
-use Rattle.hc_meaning.specs.RightOutput.{IsRightRun}
+use Rattle.hc_meaning.specs.RightOutput.{IsRightRun, IsRightOutput}
 
 -- bytes are the script of one list of statements at most
 abbrev pub HasOneReading : Type 0
@@ -24,3 +25,12 @@ EveryStateIsInOrder = (history : List Transaction) (k : ℕ) → IsDb (state his
 -- the setup script's statements, run one after another, are a right run of it
 abbrev pub SerialRunIsRight : Type 0
 SerialRunIsRight = (statements : List Statement) → IsRightRun (record { conn = 0; statements = statements } ∷ []) (played_alone statements)
+
+-- no run of the setup script alone is right but the serial one
+abbrev pub RightRunIsSerial : Type 0
+RightRunIsSerial = (statements : List Statement) (transcripts : List Transcript)
+    → IsRightRun (record { conn = 0; statements = statements } ∷ []) transcripts → transcripts ≡ played_alone statements
+
+-- an input has one right output at most, since the setup script is all of it
+abbrev pub HasOneRightOutput : Type 0
+HasOneRightOutput = (input one other : List ℕ) → IsRightOutput input one → IsRightOutput input other → one ≡ other

@@ -5,8 +5,9 @@
 //! `Run`), the cut of a connection's replies into transactions (`Transactions`) and the history of
 //! the commits (`History`). These definitions know lists and a fold, and nothing of the program.
 //!
-//! Beside them stands `plain`, a slow program that computes the functions among them, so that they
-//! can be tried on small inputs. Nothing else uses it. `laws` states what follows from the definitions alone.
+//! Beside them stands `plain`, a slow program that computes the functions among them and judges runs
+//! of the setup script alone, so that the definitions can be tried on small inputs. Only tests use it.
+//! `laws` states what follows from the definitions alone.
 #![tactic(auto)]
 
 mod answer;

@@ -1,7 +1,7 @@
 // The plain program on scripts worked by hand: what it calls right, and what it tells apart. The
 // expected replies follow from SQLite's rules for a table with a primary key.
 use crate::Statement;
-use crate::plain::{cut, run_all, same_answers, state};
+use crate::plain::{cut, is_right_run, run_all, same_answers, state};
 use hc_reply::{Ending, Line, Refusal, Reply, Row};
 use hc_value::{NoMemory, Str, Value};
 use sqlite_items::Items;
@@ -141,8 +141,23 @@ fn replies_are_right_or_told_apart(rt: HostRuntime) -> Result<(), Fail> {
     for (name, statements, printed, want) in table {
         let found = judge(&rt, rt.alloc(), statements, printed)?;
         assert_eq!(rt; found, want, "{name}");
+        let right = called_right(&rt, rt.alloc(), statements, printed)?;
+        assert_eq!(rt; right, want == Finding::Right, "{name}");
     }
     Ok(())
+}
+
+// Whether the plain program says that the replies are right.
+fn called_right(
+    rt: &impl Abort,
+    alloc: Global,
+    statements: &[Statement],
+    printed: &[(Lines, Option<Ending>)],
+) -> Result<bool, NoMemory> {
+    // The contract wants fewer than 2^32 statements.
+    assert!(rt; statements.len() < 100);
+    let replies = replies(alloc, printed)?;
+    is_right_run(alloc, statements, replies.as_slice())
 }
 
 fn judge(
@@ -151,6 +166,7 @@ fn judge(
     statements: &[Statement],
     printed: &[(Lines, Option<Ending>)],
 ) -> Result<Finding, NoMemory> {
+    // So do the contracts of the cut and the states.
     assert!(rt; statements.len() < 100);
     let Some(transactions) = cut(alloc, 0, statements, replies(alloc, printed)?)? else {
         return Ok(Finding::NotCut);

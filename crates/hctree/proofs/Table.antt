@@ -33,6 +33,10 @@ pub lookup-is-value_at : (rows : Db) (id : ℤ) → lookup (is_at (int_cmp id)) 
 lookup-is-value_at [] id = refl
 lookup-is-value_at (row ∷ rows) id = rw (int_eq_equiv.symm row.0 id, lookup-is-value_at rows id)
 
+-- the same, by another name of the id
+pub lookup-at : (rows : Db) (id key : ℤ) → key ≡ id → lookup (is_at (int_cmp key)) rows ≡ value_at rows id
+lookup-at rows id key same = ap (λ (k : ℤ). lookup (is_at (int_cmp k)) rows) same ∙ lookup-is-value_at rows id
+
 -- above an id there is no row below it, and all rows are above it
 above : (rows : Db) (id first : ℤ) → int_cmp id first ≡ Less → AllByRecursion (λ key. int_cmp first key ≡ Less) (keys_of rows)
     → (filter (λ row. int_lt row.0 id) rows ≡ []) × (filter (λ row. int_lt id row.0) rows ≡ rows)

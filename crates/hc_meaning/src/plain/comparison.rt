@@ -1,8 +1,8 @@
-// Whether two answers are the same.
+// Whether two answers, or two replies, are the same.
 ghost use Rattle.std.specs.Prelude.{◌≡◌, ◌↔◌, IsTrue};
 
 use crate::Answer;
-use hc_reply::{Line, Refusal, Row};
+use hc_reply::{Ending, Line, Refusal, Reply, Row};
 use hc_value::Value;
 
 /// Whether two statements answered the same: the same rows in the same order, and the same last
@@ -26,6 +26,39 @@ pub fn same_answers(a: &[Answer], b: &[Answer]) -> bool
         }
     }
     true
+}
+
+/// Whether two lists of replies are the same, one by one, with their endings.
+pub fn same_replies(a: &[Reply], b: &[Reply]) -> bool
+    ensures { IsTrue result ↔ (a.now ≡ b.now) }
+{
+    if a.len() != b.len() {
+        return false;
+    }
+    for (i, x) in a.iter().enumerate() {
+        if !same_reply(x, &b[i]) {
+            return false;
+        }
+    }
+    true
+}
+
+fn same_reply(a: &Reply, b: &Reply) -> bool
+    ensures { IsTrue result ↔ (a.now ≡ b.now) }
+{
+    same_rows(a.rows.as_slice(), b.rows.as_slice())
+        && same_line(&a.last, &b.last)
+        && same_ending(a.ending, b.ending)
+}
+
+fn same_ending(a: Option<Ending>, b: Option<Ending>) -> bool
+    ensures { IsTrue result ↔ (a ≡ b) }
+{
+    match (a, b) {
+        (Some(m), Some(n)) => m == n,
+        (None, None) => true,
+        _ => false,
+    }
 }
 
 fn same_rows(a: &[Row], b: &[Row]) -> bool
