@@ -4,7 +4,7 @@ ghost use Rattle.hc_io.specs.Faults.{HasCause, one_more};
 
 use crate::listed::is_listed;
 use crate::{Failed, Sink};
-use hc_value::NoMemory;
+use hc_range::NoMemory;
 use sqlite_items::Items;
 use std::alloc::Global;
 

@@ -5,7 +5,7 @@ ghost use Rattle.hc_io.specs.Transfer.{Reads};
 
 use crate::listed::is_listed;
 use crate::{Failed, Source};
-use hc_value::Bytes;
+use hc_range::Bytes;
 use sqlite_items::Items;
 
 /// Bytes in memory, some of whose reads fail.

@@ -1,6 +1,6 @@
 // Expected answers were worked out by hand from what the clauses are meant to say.
 use crate::{Failed, MemSink, MemSource, Sink, Source, StdSink, StdSource, SureSource};
-use hc_value::Bytes;
+use hc_range::Bytes;
 use sqlite_items::Items;
 use std::io;
 use std::io::{ErrorKind, Read, Write};

@@ -1,10 +1,11 @@
--- The output form: the text in which replies are printed. Each line ends with a line feed (10).
-use Rattle.std.specs.Prelude.{ℕ, List, [], ◌∷◌, ◌++◌, ◌==◌, if◌then◌else◌, Option, Some, None, codes, decimal, flat_map}
+-- The output form: the text in which replies are printed. Each line ends with a line feed (10). A text with
+-- a line feed in it is printed with it, so a row may go over several lines.
+use Rattle.std.specs.Prelude.{ℕ, List, [], ◌∷◌, ◌++◌, ◌+◌, ◌/◌, ◌%◌, ◌==◌, nat_lt, if◌then◌else◌, Option, Some, None, codes, decimal, flat_map}
 use Rattle.std.specs.Fmt.{signed_decimal}
 use Rattle.std.specs.List.{join_with_byte}
 use Rattle.std.specs.Prelude.{map}
 use Rattle.hc_value.specs.declared.value.Value.{Value}
-use Rattle.hc_value.specs.declared.value.Value.TheVariants.{Null, Int}
+use Rattle.hc_value.specs.declared.value.Value.TheVariants.{Null, Int, Text, Blob}
 use Rattle.hc_reply.specs.declared.reply.Row.{Row}
 use Rattle.hc_reply.specs.declared.reply.Refusal.{Refusal}
 use Rattle.hc_reply.specs.declared.reply.Refusal.TheVariants.{Primary}
@@ -19,18 +20,32 @@ use Rattle.hc_reply.specs.declared.reply.Transcript.{Transcript}
 abbrev pub line : List ℕ → List ℕ
 line text = text ++ 10 ∷ []
 
--- a byte of a name inside single quotes (39): a single quote is doubled
+-- a byte of a text inside single quotes (39): a single quote is doubled
 abbrev pub doubled : ℕ → List ℕ
 doubled b = if b == 39 then 39 ∷ 39 ∷ [] else b ∷ []
 
--- a name as a text literal
+-- a text, or a name, as a text literal
 abbrev pub quoted : List ℕ → List ℕ
-quoted name = 39 ∷ flat_map doubled name ++ 39 ∷ []
+quoted text = 39 ∷ flat_map doubled text ++ 39 ∷ []
 
--- NULL, or the decimal digits, with a minus in front below zero
+-- a hexadecimal digit: 0 to 9 from 48 on, A to F from 65 on
+abbrev pub digit : ℕ → ℕ
+digit d = if nat_lt d 10 then 48 + d else 55 + d
+
+-- a byte as two digits, the high one first
+abbrev pub byte_digits : ℕ → List ℕ
+byte_digits b = digit (b / 16) ∷ digit (b % 16) ∷ []
+
+-- a byte string as a blob literal
+abbrev pub blob_text : List ℕ → List ℕ
+blob_text bytes = codes "X'" ++ flat_map byte_digits bytes ++ 39 ∷ []
+
+-- NULL, the decimal digits with a minus in front below zero, `'..'`, or `X'..'`
 abbrev pub value_text : Value → List ℕ
 value_text Null = codes "NULL"
 value_text (Int n) = signed_decimal n
+value_text (Text text) = quoted text
+value_text (Blob bytes) = blob_text bytes
 
 -- `row V|V|V`; 124 is the bar
 abbrev pub row_text : Row → List ℕ

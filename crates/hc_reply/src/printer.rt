@@ -1,11 +1,12 @@
 // The text of each part of an answer, written behind what is there.
-ghost use Rattle.std.specs.Prelude.{◌≡◌, ◌≢◌, [], ◌∷◌, ◌++◌, map, IfOk, OnOk};
+ghost use Rattle.std.specs.Prelude.{◌≡◌, ◌≢◌, ◌<◌, [], ◌∷◌, ◌++◌, map, IfOk, OnOk};
 ghost use Rattle.std.specs.List.{AllByRecursion, join_with_byte};
 ghost use Rattle.std.specs.List.Sorted.{IsStrictlyIncreasing};
-ghost use Rattle.hc_reply.specs.Output.{quoted, value_text, row_text, refusal_text, last_text, ending_text_if, reply_text, transcript_text, output_text};
+ghost use Rattle.hc_reply.specs.Output.{quoted, digit, blob_text, value_text, row_text, refusal_text, last_text, ending_text_if, reply_text, transcript_text, output_text};
 
 use crate::{Ending, Line, Refusal, Reply, Row, Transcript};
-use hc_value::{Bytes, NoMemory, Str, Value};
+use hc_range::Bytes;
+use hc_value::{Blob, NoMemory, Str, Value};
 use itoa::{Buffer, Integer};
 use std::alloc::Global;
 
@@ -73,7 +74,45 @@ fn print_value(out: &mut Vec<u8>, value: &Value) -> Result<(), NoMemory>
     match value {
         Value::Null => out.extend_from_slice(b"NULL"),
         Value::Int(n) => print_number(out, *n),
+        Value::Text(text) => print_text(out, text),
+        Value::Blob(blob) => print_blob(out, blob),
     }
+}
+
+// A text, or a name, as a text literal.
+fn print_text(out: &mut Vec<u8>, text: &Str) -> Result<(), NoMemory>
+    ensures { OnOk result (out.new.items ≡ out.old.items ++ quoted text.now) }
+{
+    out.push(b'\'')?;
+    for b in text.as_bytes() {
+        if *b == b'\'' {
+            out.push(b'\'')?;
+        }
+        out.push(*b)?;
+    }
+    out.push(b'\'')?;
+    Ok(())
+}
+
+// The bytes as a blob literal.
+fn print_blob(out: &mut Vec<u8>, blob: &Blob) -> Result<(), NoMemory>
+    ensures { OnOk result (out.new.items ≡ out.old.items ++ blob_text blob.now) }
+{
+    out.extend_from_slice(b"X'")?;
+    for b in blob.as_slice() {
+        out.push(hexadecimal(*b / 16))?;
+        out.push(hexadecimal(*b % 16))?;
+    }
+    out.push(b'\'')?;
+    Ok(())
+}
+
+// A digit in upper case.
+fn hexadecimal(d: u8) -> u8
+    requires { d < 16 }
+    ensures { result ≡ digit d }
+{
+    if d < 10 { b'0' + d } else { b'A' - 10 + d }
 }
 
 fn print_last(out: &mut Vec<u8>, last: &Line) -> Result<(), NoMemory>
@@ -95,25 +134,11 @@ fn print_refusal(out: &mut Vec<u8>, refusal: &Refusal) -> Result<(), NoMemory>
     match refusal {
         Refusal::Primary { table, name } => {
             out.extend_from_slice(b"error 1555 ")?;
-            print_name(out, table)?;
+            print_text(out, table)?;
             out.push(b' ')?;
-            print_name(out, name)
+            print_text(out, name)
         }
     }
-}
-
-fn print_name(out: &mut Vec<u8>, name: &Str) -> Result<(), NoMemory>
-    ensures { OnOk result (out.new.items ≡ out.old.items ++ quoted name.now) }
-{
-    out.push(b'\'')?;
-    for b in name.as_bytes() {
-        if *b == b'\'' {
-            out.push(b'\'')?;
-        }
-        out.push(*b)?;
-    }
-    out.push(b'\'')?;
-    Ok(())
 }
 
 fn print_ending(out: &mut Vec<u8>, ending: &Option<Ending>) -> Result<(), NoMemory>

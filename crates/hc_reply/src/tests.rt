@@ -1,6 +1,6 @@
 // Expected texts were written out by hand from the output form.
 use crate::{Ending, Line, Refusal, Reply, Row, Transcript, print};
-use hc_value::{NoMemory, Str, Value};
+use hc_value::{Blob, NoMemory, Str, Value};
 use sqlite_items::Items;
 use std::alloc::Global;
 use std::test::Fail;
@@ -63,6 +63,29 @@ fn each_part_of_an_output_is_a_line(rt: HostRuntime) -> Result<(), Fail> {
         ok 18446744073709551615\nsnapshot 4294967295\n";
     assert_eq!(rt; transcripts[0].replies.is_empty(), false);
     assert_eq!(rt; transcripts[1].replies.is_empty(), false);
+    assert_eq!(rt; print(alloc, &transcripts)?.as_slice(), want.as_bytes());
+    Ok(())
+}
+
+#[test]
+fn texts_and_blobs_are_printed_as_literals(rt: HostRuntime) -> Result<(), Fail> {
+    let alloc = rt.alloc();
+    let mut values = Items::new(alloc);
+    values.push(Value::Text(Str::from_text(alloc, "it's | €")?))?;
+    values.push(Value::Text(Str::from_text(alloc, "")?))?;
+    values.push(Value::Blob(Blob::from_slice(alloc, b"\x00\x9a\xbc\xdef'")?))?;
+    values.push(Value::Blob(Blob::from_slice(alloc, b"")?))?;
+    let mut rows = Items::new(alloc);
+    rows.push(Row { values })?;
+    let mut replies = Items::new(alloc);
+    replies.push(Reply {
+        rows,
+        last: Line::Ok(1),
+        ending: None,
+    })?;
+    let transcripts = [Transcript { conn: 3, replies }];
+    let want = "conn 3\nrow 'it''s | €'|''|X'009ABCDE6627'|X''\nok 1\n";
+    assert_eq!(rt; transcripts[0].replies.is_empty(), false);
     assert_eq!(rt; print(alloc, &transcripts)?.as_slice(), want.as_bytes());
     Ok(())
 }

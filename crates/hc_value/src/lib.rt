@@ -1,17 +1,29 @@
-//! The values of SQL, and the texts and byte strings that the other crates hand to each other.
+//! The values of SQL with their classes and their order, and the texts that the other crates hand to
+//! each other.
 //!
-//! A contract sees a `Str` or a `Bytes` as the list of its bytes, so two of them with the same
-//! bytes are equal, whatever room they have reserved. A call that takes memory is given the
-//! allocator first and answers `NoMemory` where an allocation is refused.
+//! A contract sees a `Str` or a `Blob` as the list of its bytes, so two of them with the same bytes are
+//! equal, whatever room they have reserved. A call that takes memory is given the allocator first and
+//! answers `NoMemory` where an allocation is refused.
 #![tactic(auto)]
 
-mod bytes;
+mod blob;
+mod laws;
+mod order;
+mod storage;
+#[cfg(test)]
+mod tests;
 mod text;
 mod value;
 
-pub use bytes::Bytes;
+pub use blob::Blob;
+pub use laws::{
+    a_value_is_one, the_order_of_values_is_total,
+    values_are_equal_in_order_exactly_when_they_are_the_same,
+};
+pub use order::cmp;
+pub use storage::Class;
 pub use text::Str;
-pub use value::Value;
+pub use value::{Value, class, copy};
 
 /// An allocation was refused. It has no further cause.
 pub type NoMemory = std::alloc::AllocError;

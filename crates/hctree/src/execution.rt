@@ -6,8 +6,9 @@ ghost use Rattle.hc_meaning.specs.Played.{played, played_alone};
 
 use crate::engine::Engine;
 use hc_meaning::Statement;
+use hc_range::Bytes;
 use hc_reply::{Reply, Transcript, print};
-use hc_value::{Bytes, NoMemory};
+use hc_value::NoMemory;
 use sqlite_items::Items;
 use std::alloc::Global;
 

@@ -3,7 +3,8 @@
 use crate::status::{InputKind, Status};
 use crate::top::top_step;
 use hc_io::{MemSink, MemSource};
-use hc_value::{Bytes, NoMemory, Str};
+use hc_range::Bytes;
+use hc_value::{NoMemory, Str};
 use sqlite_items::Items;
 use std::alloc::Global;
 use std::test::Fail;

@@ -14,7 +14,8 @@ use crate::status::Status;
 use crate::words::are_step_words;
 use crate::writing::write_output;
 use hc_io::{Sink, Source};
-use hc_value::{Bytes, Str};
+use hc_range::Bytes;
+use hc_value::Str;
 use std::alloc::Global;
 
 /// Reads the input to its end, runs its statements one after another, and then writes the output.

@@ -88,11 +88,23 @@ fn same_values(a: &[Value], b: &[Value]) -> bool
         return false;
     }
     for (i, x) in a.iter().enumerate() {
-        if *x != b[i] {
+        if !same_value(x, &b[i]) {
             return false;
         }
     }
     true
+}
+
+fn same_value(a: &Value, b: &Value) -> bool
+    ensures { IsTrue result ↔ (a.now ≡ b.now) }
+{
+    match (a, b) {
+        (Value::Null, Value::Null) => true,
+        (Value::Int(m), Value::Int(n)) => *m == *n,
+        (Value::Text(s), Value::Text(t)) => s.as_bytes() == t.as_bytes(),
+        (Value::Blob(s), Value::Blob(t)) => s.as_slice() == t.as_slice(),
+        _ => false,
+    }
 }
 
 fn same_line(a: &Line, b: &Line) -> bool

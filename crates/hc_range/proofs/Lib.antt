@@ -1,0 +1,6 @@
+pub mod ByteOrder
+pub mod Ends
+pub mod Normal
+pub mod Searched
+pub mod Unique
+pub mod United
