@@ -1,0 +1,10 @@
+mod Bounds
+mod Encodings
+mod Headers
+mod Integers
+mod Numbers
+mod Records
+mod Steps
+mod Tails
+mod Texts
+mod Types

@@ -1,0 +1,7 @@
+-- The types so far are written.
+use Rattle.std.proofs.Common.{◌≡◌, ◌++◌, take}
+use Rattle.hc_record.specs.Record.{types_of}
+use Rattle.hc_record.proofs.encoding.push_types.Given as goal
+
+abbrev pub invariant-loop-v : goal.invariant-loop-v
+invariant-loop-v l = l.out.items ≡ l.fn.out.items ++ types_of (take l.v-index l.values)

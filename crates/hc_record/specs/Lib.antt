@@ -1,0 +1,4 @@
+pub mod Varint
+pub mod Record
+pub mod Reading
+pub mod Laws
