@@ -1,0 +1,15 @@
+-- What stands in front of a script's bytes.
+use Rattle.std.proofs.Common.{◌≡◌, ◌≢◌, ◌∙◌, ℕ, List, [], ◌∷◌, refl, sym, subst, inl, inr}
+use Rattle.std.proofs.lemmas.List.{append-nil}
+use Rattle.hc_lex.specs.declared.part.Part.TheVariants.{Statement}
+use Rattle.hc_lex.specs.Blanks.{BeginsNoBlank}
+use Rattle.hc_lex.specs.Pieces.{Skips}
+use Rattle.hc_lex.specs.Quotes.{IsOpenQuoted, IsQuote}
+use Rattle.hc_lex.specs.Statements.{IsPart}
+
+pub open_literal : (bytes : List ℕ) (quote : ℕ) (behind : List ℕ) → bytes ≡ quote ∷ behind → IsQuote quote → IsOpenQuoted quote (quote ∷ behind) → Skips (IsPart Statement) bytes []
+open_literal bytes quote behind e is left =
+    (bytes, sym (append-nil bytes), inl (quote, is, inr ((left.0, e ∙ left.1), refl)))
+
+pub plain_byte : (bytes : List ℕ) (b : ℕ) (behind : List ℕ) → bytes ≡ b ∷ behind → BeginsNoBlank bytes → ¬ IsQuote b → b ≢ 59 → Skips (IsPart Statement) bytes behind
+plain_byte bytes b behind e blank quote end = (b ∷ [], e, inr (b, refl, (subst (λ bs. BeginsNoBlank bs) e blank, quote, end)))

@@ -1,0 +1,21 @@
+-- The value of digits only grows with more of them.
+use Rattle.std.proofs.Common.{◌≡◌, ◌∙◌, ◌+◌, ◌-◌, ◌*◌, ◌<◌, ◌≤◌, ℕ, List, [], ◌∷◌, length, drop, get_or, sym, subst, arith}
+use Rattle.std.proofs.lemmas.List.{at_drop_more}
+use Rattle.hc_lex.specs.Tokens.{greatest_integer, value_behind, value_of}
+
+grows : (high : ℕ) (digits : List ℕ) → high ≤ value_behind high digits
+grows high [] = omega arith
+grows high (b ∷ digits) =
+    let more : 10 * high + (b - 48) ≤ value_behind (10 * high + (b - 48)) digits = grows (10 * high + (b - 48)) digits in
+    omega arith
+
+too_high : (value b : ℕ) (digits : List ℕ) → 922337203685477580 < value → greatest_integer < value_behind value (b ∷ digits)
+too_high value b digits high =
+    let more : 10 * value + (b - 48) ≤ value_behind (10 * value + (b - 48)) digits = grows (10 * value + (b - 48)) digits in
+    omega arith
+
+pub is_too_large : (digits : List ℕ) (value at : ℕ) → at < length digits → 922337203685477580 < value → value_behind value (drop at digits) ≡ value_of digits → greatest_integer < value_of digits
+is_too_large digits value at within high same =
+    let next = at_drop_more (λ left. value_behind value left) digits at 0 within in
+    let large : greatest_integer < value_behind value (get_or digits at 0 ∷ drop (at + 1) digits) = too_high value (get_or digits at 0) (drop (at + 1) digits) high in
+    subst (λ v. greatest_integer < v) (sym next ∙ same) large

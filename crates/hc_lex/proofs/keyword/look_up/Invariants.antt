@@ -1,0 +1,10 @@
+-- The word is looked up in what is left of the table, which gets shorter.
+use Rattle.std.proofs.Common.{◌≡◌, length, map}
+use Rattle.hc_lex.specs.Keywords.{lookup}
+use Rattle.hc_lex.proofs.keyword.look_up.Given as goal
+
+abbrev pub invariant-loop-table : goal.invariant-loop-table
+invariant-loop-table l = lookup (map (λ k. (k.0.now, k.1)) l.table) l.word ≡ lookup (map (λ k. (k.0.now, k.1)) l.initial.table) l.word
+
+abbrev pub decreases-loop-table : goal.decreases-loop-table
+decreases-loop-table l = length l.table

@@ -1,0 +1,11 @@
+pub mod Blanks
+pub mod Characters
+pub mod Flaws
+pub mod Keywords
+pub mod Laws
+pub mod Pieces
+pub mod Places
+pub mod Quotes
+pub mod Reading
+pub mod Statements
+pub mod Tokens
