@@ -1,0 +1,158 @@
+-- What reads, puts, checks and purges are answered, by what is kept of an open transaction and what was found.
+use Rattle.std.proofs.Common.{◌≡◌, ◌∙◌, ⊎_elim, refl, sym, ap, subst, inl, inr, ℕ, ◌+◌, ◌<◌, ◌≤◌, true, false, Option, List, [], ◌∷◌, length, arith, get_or, slice_set}
+use Rattle.std.proofs.lemmas.Bool.{cases_lt}
+use Rattle.std.proofs.lemmas.List.{set-get_or}
+use Rattle.hc_core.specs.Account.{Txn, Stands, WhenOpen, part_of}
+use Rattle.hc_core.specs.Kept.{IsKept}
+use Rattle.hc_core.specs.Machine.{Answers, IsEnabled, IsFree, IsUnchanged, Machine, Names, txns_of}
+use Rattle.hc_core.specs.Running.{Matches, MayPut, holds_key}
+use Rattle.hc_core.specs.Lookup.{Among}
+use Rattle.hc_core.specs.Sound.{AreInOrder, IsSound}
+use Rattle.hc_core.specs.Versions.{AreCellsAfter, IsFound, IsInTheWay}
+use Rattle.hc_core.specs.declared.account.Entry.{Entry}
+use Rattle.hc_core.specs.declared.cells.Cell.{Cell}
+use Rattle.hc_core.specs.declared.cells.Write.{Write}
+use Rattle.hc_core.specs.declared.commit.Commit.{Commit}
+use Rattle.hc_core.specs.declared.event.Event.TheVariants.{Read, Put, Check}
+use Rattle.hc_core.specs.declared.outcome.Met.{Met as MetRecord}
+use Rattle.hc_core.specs.declared.outcome.Outcome.TheVariants.{Done, Cells, Met}
+use Rattle.hc_core.specs.declared.running.Running.{Running}
+use Rattle.hc_core.proofs.Entered.{opened}
+use Rattle.hc_core.proofs.Ordered.{after_each, newest_sound}
+use Rattle.hc_core.proofs.Upheld.{Settles}
+use Rattle.hc_core.proofs.Steps.{held_of, not_both_ways, stands_of, when_map, when_never}
+
+-- a snapshot is not above the log's end
+pub snapshot_within : (m : Machine) (i : ℕ) (r : Running) → IsSound m → WhenOpen (txns_of m i) (Matches r) → r.snapshot ≤ length m.log
+snapshot_within m i r sound h =
+    let o = opened (txns_of m i) (Matches r) h in
+    subst (λ n. n ≤ length m.log) (sym (o.holds).snapshot) ((newest_sound sound.sound i o.t o.rest o.is).snapshot)
+
+-- nothing has changed
+pub kept_same : (drawn : ℕ) (commits : List Commit) (room : ℕ) (accounts : List (List Entry)) (i : ℕ) (account old d : List Entry)
+    → IsKept drawn commits room accounts → account ≡ old → old ≡ get_or accounts i d → IsKept drawn commits room (slice_set accounts i account)
+kept_same drawn commits room accounts i account old d kept same was =
+    let whole : slice_set accounts i account ≡ accounts = ap (slice_set accounts i) (same ∙ was) ∙ set-get_or accounts i d in
+    subst (IsKept drawn commits room) (sym whole) kept
+
+-- a read is answered with the cells of the snapshot
+pub read_answer : (m : Machine) (i : ℕ) (from : List ℕ) (upto : Option (List ℕ)) (r : Running) (cells : List Cell) → WhenOpen (txns_of m i) (Matches r) → r.tid ≡ 0
+    → AreCellsAfter (txns_of m) r.snapshot (part_of from upto) cells → Answers m (Read i from upto) (Cells (record { cells = cells }))
+read_answer m i from upto r cells h none are = inl (
+  when_map (Matches r) (λ t. t.id ≡ 0) (txns_of m i) (λ t k. sym k.id ∙ none) h,
+  when_map (Matches r) _ (txns_of m i)
+      (λ t k. (cells, subst (λ n. AreCellsAfter (txns_of m) n (part_of from upto) cells) k.snapshot are, refl)) h,
+)
+
+-- who may put
+pub put_enabled : (m : Machine) (i : ℕ) (key : List ℕ) (rec : Option (List ℕ)) (r : Running) → WhenOpen (txns_of m i) (Matches r) → MayPut r key → IsEnabled m (Put i key rec)
+put_enabled m i key rec r h may =
+    when_map (Matches r) _ (txns_of m i)
+    (λ t k. (
+      (λ none. may.0 (k.id ∙ none)),
+      sym k.place ∙ may.1,
+      sym k.proposed ∙ may.2,
+      λ stands. not_both_ways (holds_key key r.writes.items) (held_of r t key k (sym k.place ∙ may.1) stands) may.3,
+    )) h
+
+pub put_disabled : (m : Machine) (i : ℕ) (key : List ℕ) (rec : Option (List ℕ)) (r : Running) → WhenOpen (txns_of m i) (Matches r) → (MayPut r key → ⊥)
+    → IsEnabled m (Put i key rec) → ⊥
+put_disabled m i key rec r h not_may enabled =
+    when_never (Matches r) _ (txns_of m i)
+    (λ t k q. not_may (
+      (λ none. q.0 (sym k.id ∙ none)),
+      k.place ∙ q.1,
+      k.proposed ∙ q.2,
+      false_from (holds_key key r.writes.items) (λ held. q.3 ((stands_of r t key k (k.place ∙ q.1) held).0)),
+    )) h enabled
+  where
+    false_from : (b : _) → (b ≡ true → ⊥) → b ≡ false
+    false_from true never = absurd (never refl)
+    false_from false never = refl
+
+-- a put that meets nothing, and one that meets another
+pub put_done : (m : Machine) (i : ℕ) (key : List ℕ) (rec : Option (List ℕ)) (r : Running) → WhenOpen (txns_of m i) (Matches r) → MayPut r key
+    → IsFree (txns_of m) i r.snapshot key → Answers m (Put i key rec) Done
+put_done m i key rec r h may free = inl (
+  put_enabled m i key rec r h may,
+  when_map (Matches r) _ (txns_of m i) (λ t k. inr (subst (λ n. IsFree (txns_of m) i n key) k.snapshot free, refl)) h,
+)
+
+pub put_refused : (m : Machine) (i : ℕ) (key : List ℕ) (rec : Option (List ℕ)) (r : Running) (met : MetRecord) → WhenOpen (txns_of m i) (Matches r) → MayPut r key
+    → (j : ℕ) × (u : Txn) × IsInTheWay (txns_of m) i r.snapshot key j u × Names met j u key → Answers m (Put i key rec) (Met met)
+put_refused m i key rec r met h may way = inl (
+  put_enabled m i key rec r h may,
+  when_map (Matches r) _ (txns_of m i)
+      (λ t k. inl (met, way.0, way.1, subst (λ n. IsInTheWay (txns_of m) i n key way.0 way.1) k.snapshot way.2, way.3, refl)) h,
+)
+
+-- the connection's own open transaction does not have the key
+pub own_closed : (m : Machine) (i : ℕ) (key : List ℕ) (r : Running) → WhenOpen (txns_of m i) (Matches r) → MayPut r key
+    → WhenOpen (txns_of m i) (λ t. (t.place ≡ 0) × Stands t key) → ⊥
+own_closed m i key r h may stands =
+    when_never (Matches r) _ (txns_of m i) (λ t k q. not_both_ways (holds_key key r.writes.items) (held_of r t key k q.0 q.1) may.3) h stands
+
+-- a check that finds nothing, and one that finds a commit between
+pub check_done : (m : Machine) (i : ℕ) (from : List ℕ) (upto : Option (List ℕ)) (r : Running) → WhenOpen (txns_of m i) (Matches r) → (r.proposed ≡ 0 → ⊥)
+    → IsUnchanged (txns_of m) r.snapshot r.proposed (part_of from upto) → Answers m (Check i from upto) Done
+check_done m i from upto r h some free = inl (
+  when_map (Matches r) _ (txns_of m i) (λ t k none. some (k.proposed ∙ none)) h,
+  when_map (Matches r) _ (txns_of m i)
+      (λ t k. inr (
+        subst (λ n. IsUnchanged (txns_of m) n t.proposed (part_of from upto)) k.snapshot
+            (subst (λ n. IsUnchanged (txns_of m) r.snapshot n (part_of from upto)) k.proposed free),
+        refl,
+      )) h,
+)
+
+pub check_refused : (m : Machine) (i : ℕ) (from : List ℕ) (upto : Option (List ℕ)) (r : Running) (met : MetRecord) → WhenOpen (txns_of m i) (Matches r)
+    → (r.proposed ≡ 0 → ⊥) → (j : ℕ) × (u : Txn) × IsFound (txns_of m) r.snapshot r.proposed (part_of from upto) met.key j u × Names met j u met.key
+    → Answers m (Check i from upto) (Met met)
+check_refused m i from upto r met h some found = inl (
+  when_map (Matches r) _ (txns_of m i) (λ t k none. some (k.proposed ∙ none)) h,
+  when_map (Matches r) _ (txns_of m i)
+      (λ t k. inl (
+        met,
+        met.key,
+        found.0,
+        found.1,
+        subst (λ n. IsFound (txns_of m) n t.proposed (part_of from upto) met.key found.0 found.1) k.snapshot
+            (subst (λ n. IsFound (txns_of m) r.snapshot n (part_of from upto) met.key found.0 found.1) k.proposed found.2),
+        found.3,
+        refl,
+      )) h,
+)
+
+-- a short key put by an undecided transaction
+pub settles_put : (key : List ℕ) (rec : Option (List ℕ)) (t : Txn) → t.place ≡ 0 → length key ≤ 463
+    → Settles t (record t { standing = record { key = key; rec = rec } ∷ t.standing; puts = key ∷ t.puts })
+settles_put key rec t undecided short = record {
+  decided = λ some. absurd (some undecided);
+  short = λ all other stands. elim (stands.1) [
+    | inl same ↦ subst (λ k. length k ≤ 463) (sym (ap (λ (w : Write). w.key) same)) short
+    | inr there ↦ all other (stands.0, there)
+  ];
+}
+
+-- an open transaction is the newest of its connection
+pub open_newest : (ts : List Txn) (t : Txn) (Q : Txn → Type 0) → AreInOrder ts → Among t ts → t.ended ≡ false → Q t → WhenOpen ts Q
+open_newest [] t Q ordered there running q = absurd there
+open_newest (u ∷ us) t Q ordered there running q =
+    elim there [
+      | inl same ↦ (subst (λ (v : Txn). v.ended ≡ false) same running, subst Q same q)
+      | inr older ↦ absurd (not_both_ways t.ended ((after_each u t us ordered.0 older).ended) running)
+    ]
+
+-- each open transaction sees the commit at a place
+pub seen_by_all : (m : Machine) (place : ℕ) → IsSound m → ((i : ℕ) → WhenOpen (txns_of m i) (λ t. t.snapshot ≤ place) → ⊥)
+    → (i : ℕ) (t : Txn) → Among t (txns_of m i) → t.ended ≡ false → place + 1 ≤ t.snapshot
+seen_by_all m place sound all i t there running =
+    ⊎_elim (λ (high : place < t.snapshot). omega (arith, high))
+    (λ (low : t.snapshot ≤ place). absurd (all i (open_newest (txns_of m i) t (λ u. u.snapshot ≤ place) (sound.sound.in_order i) there running low)))
+    (cases_lt place t.snapshot)
+
+pub seen_by_each : (m : Machine) (place : ℕ) → ((i : ℕ) (t : Txn) → Among t (txns_of m i) → t.ended ≡ false → place + 1 ≤ t.snapshot)
+    → (i : ℕ) → WhenOpen (txns_of m i) (λ t. t.snapshot ≤ place) → ⊥
+seen_by_each m place all i low =
+    let o = opened (txns_of m i) (λ t. t.snapshot ≤ place) low in
+    omega (arith, o.holds, all i o.t (subst (Among o.t) (sym o.is) (inl refl)) o.running)

@@ -1,0 +1,107 @@
+-- A transaction begins where none is open: its snapshot is all that is committed.
+use Rattle.std.proofs.Common.{◌≡◌, ◌≢◌, ◌∙◌, ⊎_elim, refl, sym, ap, subst, ℕ, ◌+◌, ◌≤◌, true, List, [], ◌∷◌, Option, arith}
+use Rattle.std.proofs.lemmas.Bool.{cases_eq}
+use Rattle.hc_core.specs.Lookup.{Among, but}
+use Rattle.hc_core.specs.Account.{Txn, Stands, StandsAs, IsIdle, begun_at}
+use Rattle.hc_core.specs.Versions.{PutAt}
+use Rattle.hc_core.specs.Sound.{AreSound, TxnIsSound, AreInOrder, ComesAfterEach}
+use Rattle.hc_core.proofs.Lookups.{but-same, but-other, each_grown, grown_here}
+use Rattle.hc_core.proofs.Agreeing.{AgreeUpto, cells-agree, none-agree}
+use Rattle.hc_core.proofs.Ordered.{after_each, each_after}
+
+-- where no transaction is open, each has ended
+pub all_ended : (ts : List Txn) → AreInOrder ts → IsIdle ts → (u : Txn) → Among u ts → u.ended ≡ true
+all_ended [] ordered idle u there = elim there [ ]
+all_ended (t ∷ ts) ordered idle u there = ⊎_elim (λ (same : u ≡ t). ap (λ (v : Txn). v.ended) same ∙ idle) (λ behind. (after_each t u ts ordered.0 behind).ended) there
+
+module _ {size : ℕ} {log : ℕ → ℕ} {of : ℕ → List Txn} (s : AreSound size log of) (i : ℕ) (idle : IsIdle (of i)) where
+  abbrev new : Txn
+  new = begun_at size
+
+  abbrev now : ℕ → List Txn
+  now = but of i (new ∷ of i)
+
+  put_there : (c : ℕ) (key : List ℕ) (rec : Option (List ℕ)) → PutAt of c key rec → PutAt now c key rec
+  put_there c key rec put = (put.0, put.1, grown_here of i new put.0 put.1 put.2, put.3, put.4, put.5)
+
+  put_back : (c : ℕ) (key : List ℕ) (rec : Option (List ℕ)) → PutAt now c key rec → PutAt of c key rec
+  put_back c key rec put =
+      each_grown of i new (λ j u. u.place ≡ c → StandsAs u key rec → PutAt of c key rec)
+      (λ at stands. absurd stands)
+      (λ j u there at stands. (j, u, there, at, put.4, stands))
+      put.0 put.1 put.2 put.3 put.5
+
+  agree : AgreeUpto size of now
+  agree = record { there = λ c key rec within. put_there c key rec; back = λ c key rec within. put_back c key rec }
+
+  carried : (j : ℕ) (v : Txn) → TxnIsSound size of j v → TxnIsSound size now j v
+  carried j v h = record {
+    snapshot = h.snapshot;
+    undrawn = h.undrawn;
+    place = h.place;
+    rolled_back = h.rolled_back;
+    once = h.once;
+    listed = h.listed;
+    alone = λ undecided k u key among u_undecided stands u_stands.
+        each_grown of i new (λ k u. u.place ≡ 0 → Stands u key → k ≡ j)
+        (λ is_undecided is_standing. absurd is_standing.1)
+        (λ k u there is_undecided is_standing. h.alone undecided k u key there is_undecided stands is_standing)
+        k u among u_undecided u_stands;
+    newest = λ undecided k u key among stands u_stands.
+        each_grown of i new (λ k u. Stands u key → u.place ≤ v.snapshot)
+        (λ is_standing. absurd is_standing.1)
+        (λ k u there is_standing. h.newest undecided k u key there stands is_standing)
+        k u among u_stands;
+    reads = λ read among. cells-agree size of now agree v.snapshot read.part read.cells h.snapshot (h.reads read among);
+    proposed = h.proposed;
+    chosen = h.chosen;
+    checked = λ part among key inside. none-agree size of now agree v.snapshot v.proposed key h.proposed (h.checked part among key inside);
+    first = λ placed key has. none-agree size of now agree v.snapshot v.place key (omega (arith, (h.place placed).1)) (h.first placed key has);
+    refusals = λ r among. let n = h.refusals r among in (n.0, n.1, grown_here of i new n.0 n.1 n.2, n.3, n.4, n.5, n.6, n.7, n.8, n.9);
+  }
+
+  new_sound : TxnIsSound size now i new
+  new_sound = record {
+    snapshot = omega arith;
+    undrawn = λ none. (refl, refl, refl, refl);
+    place = λ placed. absurd (placed refl);
+    rolled_back = λ ended undecided. refl;
+    once = tt;
+    listed = λ key stands. absurd stands.1;
+    alone = λ undecided k u key among u_undecided stands. absurd stands.1;
+    newest = λ undecided k u key among stands. absurd stands.1;
+    reads = λ read among. absurd among;
+    proposed = omega arith;
+    chosen = λ placed. absurd (placed refl);
+    checked = λ part among. absurd among;
+    first = λ placed. absurd (placed refl);
+    refusals = λ r among. absurd among;
+  }
+
+  comes_after : ComesAfterEach new (of i)
+  comes_after = each_after new (of i) (λ u there. record {
+    ended = all_ended (of i) (s.in_order i) idle u there;
+    id = λ drawn. absurd (drawn refl);
+    ord = λ drawn. absurd (drawn refl);
+    snapshot = (s.each i u there).snapshot;
+    place = ⊎_elim (λ (none : u.place ≡ 0). omega arith) (λ placed. ((s.each i u there).place placed).1) (cases_eq u.place 0);
+  })
+
+  pub kept_begin : AreSound size log (but of i (begun_at size ∷ of i))
+  kept_begin = record {
+    distinct = s.distinct;
+    entries = λ c below. let e = s.entries c below in (e.0, e.1, grown_here of i new e.0 e.1 e.2, e.3);
+    decided = λ j u c among.
+        each_grown of i new (λ j u. u.place ≡ c + 1 → log c ≡ u.id) (λ at. absurd (omega (arith, at))) (λ j u there at. s.decided j u c there at) j u among;
+    ids = λ j k u v among v_among.
+        each_grown of i new (λ j u. u.id ≢ 0 → u.id ≡ v.id → j ≡ k)
+        (λ drawn. absurd (drawn refl))
+        (λ j u there drawn same.
+        each_grown of i new (λ k v. u.id ≡ v.id → j ≡ k) (λ none. absurd (drawn none)) (λ k v v_there equal. s.ids j k u v there v_there drawn equal) k v v_among same)
+        j u among;
+    in_order = λ j.
+        ⊎_elim (λ (same : i ≡ j). subst (λ k. AreInOrder (now k)) same (subst AreInOrder (sym (but-same of i (new ∷ of i))) (comes_after, s.in_order i)))
+        (λ differ. subst AreInOrder (sym (but-other of i j (new ∷ of i) differ)) (s.in_order j))
+        (cases_eq i j);
+    each = each_grown of i new (TxnIsSound size now) new_sound (λ j u there. carried j u (s.each j u there));
+  }

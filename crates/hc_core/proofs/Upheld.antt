@@ -1,0 +1,124 @@
+-- What the machine keeps holds again after an event whose answer the table gives.
+use Rattle.std.proofs.Common.{◌≡◌, ◌≢◌, ◌∙◌, inl, refl, sym, ap, subst, ℕ, ◌+◌, ◌<◌, ◌≤◌, ◌^◌, List, [], ◌∷◌, ◌++◌, length, get_or, slice_set, arith}
+use Rattle.std.proofs.lemmas.List.{length-set}
+use Rattle.hc_core.specs.Lookup.{Among, but}
+use Rattle.hc_core.specs.Account.{Txn, Stands, WhenOpen, after_entry, begun_at, newest_changed}
+use Rattle.hc_core.specs.Commits.{IsCommitOf, AreCommits}
+use Rattle.hc_core.specs.Diary.{entry_of}
+use Rattle.hc_core.specs.Kept.{IsKept, machine_of}
+use Rattle.hc_core.specs.Machine.{Machine, Answers, after, entered, txns_of}
+use Rattle.hc_core.specs.Running.{HaveSameWrites}
+use Rattle.hc_core.specs.Sound.{IsSound}
+use Rattle.hc_core.specs.declared.account.Entry.{Entry}
+use Rattle.hc_core.specs.declared.commit.Commit.{Commit}
+use Rattle.hc_core.specs.declared.event.Event.{Event}
+use Rattle.hc_core.specs.declared.outcome.Outcome.{Outcome}
+use Rattle.hc_core.proofs.Lookups.{new_here, rest_here, others_here, each_old, each_either, each_grown, grown_here}
+use Rattle.hc_core.proofs.Entered.{opened, in_range, txns_of-entered}
+use Rattle.hc_core.proofs.SoundRuns.{sound_with}
+
+-- what the log and the bound on keys rest on: where it is decided, who it is and what it put; and short keys
+pub record Settles (t new : Txn) : Type 0 where
+  pub decided : t.place ≢ 0 → (new.place ≡ t.place) × (new.id ≡ t.id) × (new.ord ≡ t.ord) × (new.standing ≡ t.standing)
+  pub short : ((key : List ℕ) → Stands t key → length key ≤ 463) → (key : List ℕ) → Stands new key → length key ≤ 463
+
+-- an entry of the log stays one where the newest transaction of a connection changes
+commit_changed : (of : ℕ → List Txn) (i : ℕ) (t new : Txn) (rest : List Txn) (c : ℕ) (commit : Commit) → of i ≡ t ∷ rest → Settles t new → 0 < c
+    → IsCommitOf of c commit → IsCommitOf (but of i (new ∷ rest)) c commit
+commit_changed of i t new rest c commit is settles some h =
+    each_old of i t rest is
+    (λ j u. commit.conn ≡ j → u.place ≡ c → u.id ≡ commit.tid → u.ord ≡ commit.ord → HaveSameWrites commit.writes.items u.standing → IsCommitOf (but of i (new ∷ rest)) c commit)
+    (λ conn place id ord writes.
+    let same = settles.decided (λ none. omega (arith, none, place, some)) in (
+      new,
+      subst (λ j. Among new (but of i (new ∷ rest) j)) (sym conn) (new_here of i new rest),
+      same.0 ∙ place,
+      same.1 ∙ id,
+      same.2 ∙ ord,
+      subst (HaveSameWrites commit.writes.items) (sym same.3) writes,
+    ))
+    (λ u there conn place id ord writes.
+    (u, subst (λ j. Among u (but of i (new ∷ rest) j)) (sym conn) (rest_here of i new rest u there), place, id, ord, writes))
+    (λ j u differ there conn place id ord writes.
+    (u, subst (λ k. Among u (but of i (new ∷ rest) k)) (sym conn) (others_here of i new rest j u differ there), place, id, ord, writes))
+    commit.conn h.0 h.1 refl h.2 h.3 h.4 h.5
+
+pub commits_changed : (of : ℕ → List Txn) (i : ℕ) (t new : Txn) (rest : List Txn) (c : ℕ) (commits : List Commit) → of i ≡ t ∷ rest → Settles t new → 0 < c
+    → AreCommits of c commits → AreCommits (but of i (new ∷ rest)) c commits
+commits_changed of i t new rest c [] is settles some h = tt
+commits_changed of i t new rest c (commit ∷ commits) is settles some h = (
+  commit_changed of i t new rest c commit is settles some h.0,
+  commits_changed of i t new rest (c + 1) commits is settles (omega (arith, some)) h.1,
+)
+
+-- and where a connection gets a transaction
+pub commits_grown : (of : ℕ → List Txn) (i : ℕ) (new : Txn) (c : ℕ) (commits : List Commit) → AreCommits of c commits → AreCommits (but of i (new ∷ of i)) c commits
+commits_grown of i new c [] h = tt
+commits_grown of i new c (commit ∷ commits) h = (
+  (h.0.0, grown_here of i new commit.conn h.0.0 h.0.1, h.0.2, h.0.3, h.0.4, h.0.5),
+  commits_grown of i new (c + 1) commits h.1,
+)
+
+-- a log with one more entry
+pub commits_pushed : (of : ℕ → List Txn) (c : ℕ) (commits : List Commit) (commit : Commit) → AreCommits of c commits → IsCommitOf of (c + length commits) commit
+    → AreCommits of c (commits ++ commit ∷ [])
+commits_pushed of c [] commit h last = (subst (λ n. IsCommitOf of n commit) (omega arith) last, tt)
+commits_pushed of c (first ∷ commits) commit h last =
+    (h.0, commits_pushed of (c + 1) commits commit h.1 (subst (λ n. IsCommitOf of n commit) (omega arith) last))
+
+-- the accounts after an entry are those of the table
+module _ (drawn : ℕ) (commits : List Commit) (accounts : List (List Entry)) (i : ℕ) (account : List Entry) (event same : Event) (outcome : Outcome)
+    (is : account ≡ entry_of event outcome ∷ get_or accounts i []) (form : event ≡ same) where
+  abbrev m : Machine
+  m = machine_of drawn commits accounts
+
+  pub accounts_entered : slice_set accounts i account ≡ (entered m i same outcome).accounts
+  accounts_entered = rw (is, form) refl
+
+  -- whatever the event does to the connection's transactions and to the log
+  pub kept_entered : (room larger more : ℕ) (longer : List Commit) (now : List Txn) → IsKept drawn commits room accounts → Answers m same outcome
+      → i < length accounts → after m same outcome ≡ machine_of more longer (entered m i same outcome).accounts
+      → after_entry same outcome (txns_of m i) ≡ now → AreCommits (but (txns_of m) i now) 1 longer
+      → ((j : ℕ) (u : Txn) → Among u (but (txns_of m) i now j) → (key : List ℕ) → Stands u key → length key ≤ 463)
+      → more < 2 ^ 32 → more ≤ larger → IsKept more longer larger (slice_set accounts i account)
+  kept_entered room larger more longer now kept answers within as_after as_now logged short bounded roomy =
+      let is_now : txns_of (entered m i same outcome) ≡ but (txns_of m) i now =
+      txns_of-entered m i same outcome within ∙ ap (but (txns_of m) i) as_now in
+      rw accounts_entered record {
+        sound = subst IsSound as_after (sound_with m same outcome kept.sound answers);
+        logged = subst (λ (of : ℕ → List Txn). AreCommits of 1 longer) (sym is_now) logged;
+        short = λ j u key there stands. short j u (subst (λ (of : ℕ → List Txn). Among u (of j)) is_now there) key stands;
+        few = rw (← accounts_entered, length-set accounts i account) kept.few;
+        bounded = bounded;
+        roomy = roomy;
+      }
+
+  -- a short key stands where one stood, and where one comes
+  pub short_changed : (room : ℕ) (t new : Txn) (rest : List Txn) → IsKept drawn commits room accounts → txns_of m i ≡ t ∷ rest → Settles t new
+      → (j : ℕ) (u : Txn) → Among u (but (txns_of m) i (new ∷ rest) j) → (key : List ℕ) → Stands u key → length key ≤ 463
+  short_changed room t new rest kept is settles =
+      each_either (txns_of m) i t rest is new (λ j u. (key : List ℕ) → Stands u key → length key ≤ 463)
+      (settles.short (λ key stands. kept.short i t key (subst (Among t) (sym is) (inl refl)) stands))
+      (λ j u there key stands. kept.short j u key there stands)
+
+  -- the newest transaction changes, and neither the log nor the number of ids does
+  pub kept_changed : (room : ℕ) (f : Txn → Txn) → IsKept drawn commits room accounts → Answers m same outcome
+      → after m same outcome ≡ entered m i same outcome → ((ts : List Txn) → after_entry same outcome ts ≡ newest_changed f ts)
+      → WhenOpen (txns_of m i) (λ t. Settles t (f t)) → IsKept drawn commits room (slice_set accounts i account)
+  kept_changed room f kept answers as_after as_change open_now =
+      let o = opened (txns_of m i) (λ t. Settles t (f t)) open_now in
+      kept_entered room room drawn commits (f o.t ∷ o.rest) kept answers (in_range m i o.t o.rest o.is) as_after
+      (as_change (txns_of m i) ∙ ap (newest_changed f) o.is)
+      (commits_changed (txns_of m) i o.t (f o.t) o.rest 1 commits o.is o.holds (omega arith) kept.logged)
+      (short_changed room o.t (f o.t) o.rest kept o.is o.holds) kept.bounded kept.roomy
+
+  -- a transaction begins
+  pub kept_begun : (room snapshot : ℕ) → IsKept drawn commits room accounts → Answers m same outcome → i < length accounts
+      → after m same outcome ≡ entered m i same outcome → ((ts : List Txn) → after_entry same outcome ts ≡ begun_at snapshot ∷ ts)
+      → IsKept drawn commits room (slice_set accounts i account)
+  kept_begun room snapshot kept answers within as_after as_change =
+      kept_entered room room drawn commits (begun_at snapshot ∷ txns_of m i) kept answers within as_after (as_change (txns_of m i))
+      (commits_grown (txns_of m) i (begun_at snapshot) 1 commits kept.logged)
+      (each_grown (txns_of m) i (begun_at snapshot) (λ j u. (key : List ℕ) → Stands u key → length key ≤ 463)
+      (λ key stands. absurd stands.1) (λ j u there key stands. kept.short j u key there stands))
+      kept.bounded kept.roomy

@@ -1,0 +1,10 @@
+pub mod Diary
+pub mod Lookup
+pub mod Account
+pub mod Commits
+pub mod Versions
+pub mod Machine
+pub mod Running
+pub mod Sound
+pub mod Kept
+pub mod Laws

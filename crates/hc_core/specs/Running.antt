@@ -1,0 +1,55 @@
+-- What the machine keeps of a connection at run time, and how it agrees with the connection's account.
+use Rattle.std.specs.Prelude.{◌≡◌, ◌≢◌, ℕ, Bool, false, max, Option, Some, None, List, [], ◌∷◌, ◌↔◌}
+use Rattle.std.specs.Str.{bytes_eq}
+use Rattle.std.specs.List.{list_any}
+use Rattle.hc_range.specs.Ranges.{InAny}
+use Rattle.hc_core.specs.Lookup.{Among}
+use Rattle.hc_core.specs.Account.{Txn, HasRead, IsIdle, WhenOpen}
+use Rattle.hc_core.specs.declared.cells.Write.{Write}
+use Rattle.hc_core.specs.declared.event.Event.{Event}
+use Rattle.hc_core.specs.declared.event.Event.TheVariants.{Put, Check}
+use Rattle.hc_core.specs.declared.running.Running.{Running}
+
+-- two lists have the same writes, in whatever order
+abbrev pub HaveSameWrites : List Write → List Write → Type 0
+HaveSameWrites writes others = (w : Write) → Among w writes ↔ Among w others
+
+-- what is kept of an open transaction is what its account shows: the numbers, the keys that it read, the keys
+-- that were checked for its proposal and, until it is decided, what stands put
+pub record Matches (r : Running) (t : Txn) : Type 0 where
+  pub id : r.tid ≡ t.id
+  pub ord : r.ord ≡ t.ord
+  pub snapshot : r.snapshot ≡ t.snapshot
+  pub proposed : r.proposed ≡ t.proposed
+  pub place : r.place ≡ t.place
+  pub reads : (key : List ℕ) → InAny r.reads key ↔ HasRead t key
+  pub checked : (key : List ℕ) → InAny r.checked key ↔ InAny t.checked key
+  pub writes : t.place ≡ 0 → HaveSameWrites r.writes.items t.standing
+
+-- what is kept of a connection's open transaction, if it has one
+abbrev pub IsOpenIn : Option Running → List Txn → Type 0
+IsOpenIn None ts = IsIdle ts
+IsOpenIn (Some r) ts = WhenOpen ts (Matches r)
+
+-- the greatest ordinal, or 0
+abbrev pub greatest_ord : List Txn → ℕ
+greatest_ord [] = 0
+greatest_ord (t ∷ ts) = max t.ord (greatest_ord ts)
+
+-- whether a key is among writes
+abbrev pub holds_key : List ℕ → List Write → Bool
+holds_key key writes = list_any (λ w. bytes_eq w.key key) writes
+
+-- an event that may be refused
+abbrev pub IsPutOrCheck : Event → Type 0
+IsPutOrCheck (Put conn key rec) = Unit {0}
+IsPutOrCheck (Check conn from upto) = Unit {0}
+IsPutOrCheck _ = ⊥
+
+-- a proposal stands, it is not decided, and each key that was read was checked for it
+abbrev pub MayDecide : Running → Type 0
+MayDecide r = (r.proposed ≢ 0) × (r.place ≡ 0) × ((key : List ℕ) → InAny r.reads key → InAny r.checked key)
+
+-- an id is drawn, it is not decided, nothing is proposed, and the key does not stand
+abbrev pub MayPut : Running → List ℕ → Type 0
+MayPut r key = (r.tid ≢ 0) × (r.place ≡ 0) × (r.proposed ≡ 0) × (holds_key key r.writes.items ≡ false)

@@ -1,0 +1,31 @@
+// What follows from the table of the machine alone. Each law is the contract of a function that does nothing.
+// The lemmas in proofs/Kept say the same event by event, of any log and any transactions by connection, and take
+// the facts of an event in place of this machine's answer: they are what another machine can cite.
+ghost use Rattle.hc_core.specs.Laws.{AfterEveryRun, AnswersAreOne, EachEventKeepsSoundness, FirstCommitterWins, NewIsSound, ReadsAreSnapshots, RefusalsNameWriters};
+ghost use Rattle.hc_core.specs.Sound.{IsSound};
+
+/// A new machine is sound, for any number of connections.
+pub fn a_new_machine_is_sound()
+    ensures { NewIsSound }
+{}
+
+/// Whatever event comes to a sound machine, and is answered by the table, the machine after it is sound.
+pub fn each_event_keeps_soundness()
+    ensures { EachEventKeepsSoundness }
+{}
+
+/// The table leaves no choice: a sound machine has one answer at most to an event.
+pub fn an_event_has_one_answer()
+    ensures { AnswersAreOne }
+{}
+
+/// Whatever the events are, of whichever connections and in whatever order they come, the machine after
+/// them is sound. So each part that was read has the cells of its snapshot; what a committed transaction
+/// read or put, no other commit put between its snapshot and its commit number; and a refusal names a
+/// transaction of another connection that put the key.
+pub fn every_run_is_sound()
+    ensures sound { AfterEveryRun IsSound }
+    ensures reads { AfterEveryRun ReadsAreSnapshots }
+    ensures first { AfterEveryRun FirstCommitterWins }
+    ensures refusals { AfterEveryRun RefusalsNameWriters }
+{}

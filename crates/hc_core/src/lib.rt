@@ -1,0 +1,35 @@
+//! The transaction machine: what a snapshot sees, when a put meets another, what a check finds, and who wins a
+//! commit number.
+//!
+//! `Core::step` answers each event by one table (`specs/Machine.antt`), and changes nothing where an event is not
+//! enabled or memory is missing. After any events of any connections in any order the machine is sound (`laws`).
+//! Contracts see of it the log and the account of each connection, which is its events with their answers, the
+//! newest first. Accounts are not kept at run time.
+#![tactic(auto)]
+
+mod account;
+mod cells;
+mod commit;
+mod conn;
+mod copying;
+mod diary;
+mod enabled;
+mod event;
+pub mod laws;
+mod log;
+mod machine;
+mod outcome;
+mod reading;
+mod running;
+#[cfg(test)]
+mod tests;
+mod writers;
+
+pub use account::{Account, Entry};
+pub use cells::{Cell, Part, Write};
+pub use event::Event;
+pub use machine::Core;
+pub use outcome::{Lost, Met, Outcome};
+
+/// An allocation was refused. It has no further cause.
+pub type NoMemory = std::alloc::AllocError;

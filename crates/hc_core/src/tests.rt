@@ -1,0 +1,362 @@
+// Runs of the machine with the answers that its table gives, worked out by hand. Keys and records are one
+// byte each, in hexadecimal, and an upper end of 0 stands for none.
+ghost use Rattle.std.specs.Prelude.{◌≡◌, [], ◌∷◌, IfOk};
+ghost use Rattle.hc_core.specs.Kept.{PutsShortKey};
+
+use crate::{Core, Event, NoMemory, Outcome};
+use hc_range::Bytes;
+use std::alloc::Global;
+use std::test::Fail;
+
+#[derive(Debug, Clone, Copy)]
+enum Do {
+    Begin(u32),
+    Draw(u32, u32),
+    Read(u32, u8, u8),
+    Put(u32, u8, u8),
+    PutTombstone(u32, u8),
+    Propose(u32),
+    Check(u32, u8, u8),
+    Decide(u32),
+    Unput(u32, u8),
+    End(u32),
+    Purge(u8),
+}
+
+fn byte(alloc: Global, byte: u8) -> Result<Bytes, NoMemory>
+    ensures { IfOk result (λ bytes. bytes ≡ byte ∷ []) }
+{
+    Bytes::from_slice(alloc, &[byte])
+}
+
+fn end(alloc: Global, end: u8) -> Result<Option<Bytes>, NoMemory> {
+    match end {
+        0 => Ok(None),
+        end => Ok(Some(byte(alloc, end)?)),
+    }
+}
+
+fn event(alloc: Global, what: Do) -> Result<Event, NoMemory>
+    ensures { IfOk result PutsShortKey }
+{
+    Ok(match what {
+        Do::Begin(conn) => Event::Begin { conn },
+        Do::Draw(conn, ord) => Event::Draw { conn, ord },
+        Do::Read(conn, from, upto) => Event::Read {
+            conn,
+            from: byte(alloc, from)?,
+            upto: end(alloc, upto)?,
+        },
+        Do::Put(conn, key, rec) => Event::Put {
+            conn,
+            key: byte(alloc, key)?,
+            rec: Some(byte(alloc, rec)?),
+        },
+        Do::PutTombstone(conn, key) => Event::Put {
+            conn,
+            key: byte(alloc, key)?,
+            rec: None,
+        },
+        Do::Propose(conn) => Event::Propose { conn },
+        Do::Check(conn, from, upto) => Event::Check {
+            conn,
+            from: byte(alloc, from)?,
+            upto: end(alloc, upto)?,
+        },
+        Do::Decide(conn) => Event::Decide { conn },
+        Do::Unput(conn, key) => Event::Unput {
+            conn,
+            key: byte(alloc, key)?,
+        },
+        Do::End(conn) => Event::End { conn },
+        Do::Purge(key) => Event::Purge {
+            key: byte(alloc, key)?,
+        },
+    })
+}
+
+fn first(bytes: &[u8]) -> u8 {
+    bytes.first().copied().unwrap_or(0)
+}
+
+fn answer(alloc: Global, outcome: &Outcome) -> Result<String, Fail> {
+    Ok(match outcome {
+        Outcome::Done => format!(in alloc; "done")?,
+        Outcome::Began(snapshot) => format!(in alloc; "began {}", snapshot.0)?,
+        Outcome::Drew(id) => format!(in alloc; "drew {}", id.0)?,
+        Outcome::Cells(part) => {
+            let mut text = format!(in alloc; "cells")?;
+            for cell in part.cells.as_slice() {
+                let (key, rec) = (first(cell.key.as_slice()), first(cell.rec.as_slice()));
+                let one = format!(in alloc; " {key:02x}={rec:02x}")?;
+                text.push_str(one.as_str())?;
+            }
+            text
+        }
+        Outcome::Met(met) => {
+            let key = first(met.key.as_slice());
+            format!(in alloc;
+                "met {} of {}.{} at {key:02x}",
+                met.tid.0, met.conn, met.ord
+            )?
+        }
+        Outcome::Proposed(number) => format!(in alloc; "proposed {}", number.0)?,
+        Outcome::Lost(lost) => format!(in alloc; "lost {} to {}", lost.cid.0, lost.other.0)?,
+        Outcome::Decided(number) => format!(in alloc; "decided {}", number.0)?,
+        Outcome::NotNow => format!(in alloc; "not now")?,
+    })
+}
+
+// A run of a new machine: how many connections it has beside the first, and its events with their answers.
+#[derive(Clone, Copy)]
+struct Run {
+    others: u8,
+    events: &'static [(Do, &'static str)],
+}
+
+const ONE_COMMIT: Run = Run {
+    others: 1,
+    events: &[
+        (Do::Put(0, 0x61, 1), "not now"),
+        (Do::Begin(0), "began 0"),
+        (Do::Draw(0, 1), "drew 1"),
+        (Do::Put(0, 0x61, 1), "done"),
+        (Do::Propose(0), "proposed 1"),
+        (Do::Decide(0), "decided 1"),
+        (Do::End(0), "done"),
+        (Do::Begin(2), "not now"),
+    ],
+};
+
+const WRITE_SKEW: Run = Run {
+    others: 1,
+    events: &[
+        (Do::Begin(0), "began 0"),
+        (Do::Begin(1), "began 0"),
+        (Do::Read(0, 0x62, 0x63), "cells"),
+        (Do::Read(1, 0x61, 0x62), "cells"),
+        (Do::Draw(0, 1), "drew 1"),
+        (Do::Draw(1, 1), "drew 2"),
+        (Do::Put(0, 0x61, 1), "done"),
+        (Do::Put(1, 0x62, 1), "done"),
+        (Do::Propose(0), "proposed 1"),
+        (Do::Check(0, 0x62, 0x63), "done"),
+        (Do::Decide(0), "decided 1"),
+        (Do::Propose(1), "proposed 2"),
+        (Do::Decide(1), "not now"),
+        (Do::Check(1, 0x61, 0x62), "met 1 of 0.1 at 61"),
+        (Do::Unput(1, 0x62), "done"),
+        (Do::End(1), "done"),
+        (Do::End(0), "done"),
+    ],
+};
+
+// A version under a newer one is found, and it is the older one that is named.
+const UNDER_A_NEWER_ONE: Run = Run {
+    others: 2,
+    events: &[
+        (Do::Begin(0), "began 0"),
+        (Do::Read(0, 0x61, 0x62), "cells"),
+        (Do::Begin(1), "began 0"),
+        (Do::Draw(1, 1), "drew 1"),
+        (Do::Put(1, 0x61, 1), "done"),
+        (Do::Propose(1), "proposed 1"),
+        (Do::Decide(1), "decided 1"),
+        (Do::End(1), "done"),
+        (Do::Draw(0, 1), "drew 2"),
+        (Do::Put(0, 0x70, 1), "done"),
+        (Do::Propose(0), "proposed 2"),
+        (Do::Begin(2), "began 1"),
+        (Do::Draw(2, 1), "drew 3"),
+        (Do::Put(2, 0x61, 2), "done"),
+        (Do::Propose(2), "proposed 2"),
+        (Do::Decide(2), "decided 2"),
+        (Do::End(2), "done"),
+        (Do::Check(0, 0x61, 0x62), "met 1 of 1.1 at 61"),
+    ],
+};
+
+// A lost number voids the checks, and a second proposal needs them again.
+const LOST_AND_PROPOSED_AGAIN: Run = Run {
+    others: 1,
+    events: &[
+        (Do::Begin(0), "began 0"),
+        (Do::Read(0, 0x10, 0), "cells"),
+        (Do::Draw(0, 7), "drew 1"),
+        (Do::Put(0, 0x61, 1), "done"),
+        (Do::Propose(0), "proposed 1"),
+        (Do::Check(0, 0x10, 0x20), "done"),
+        (Do::Decide(0), "not now"),
+        (Do::Check(0, 0x20, 0), "done"),
+        (Do::Begin(1), "began 0"),
+        (Do::Draw(1, 1), "drew 2"),
+        (Do::Put(1, 0x05, 1), "done"),
+        (Do::Propose(1), "proposed 1"),
+        (Do::Decide(1), "decided 1"),
+        (Do::Decide(0), "lost 1 to 2"),
+        (Do::Decide(0), "not now"),
+        (Do::Check(0, 0x10, 0), "not now"),
+        (Do::Propose(0), "proposed 2"),
+        (Do::Decide(0), "not now"),
+        (Do::Check(0, 0x10, 0), "done"),
+        (Do::Propose(0), "proposed 2"),
+        (Do::Decide(0), "not now"),
+        (Do::Check(0, 0x10, 0), "done"),
+        (Do::Decide(0), "decided 2"),
+    ],
+};
+
+// A put meets an undecided one, until that one is taken out; then it meets the commit above its snapshot.
+const PUTS_MEET: Run = Run {
+    others: 2,
+    events: &[
+        (Do::Begin(0), "began 0"),
+        (Do::Begin(1), "began 0"),
+        (Do::Begin(2), "began 0"),
+        (Do::Draw(0, 1), "drew 1"),
+        (Do::Draw(1, 1), "drew 2"),
+        (Do::Draw(2, 1), "drew 3"),
+        (Do::Put(0, 0x61, 1), "done"),
+        (Do::Put(0, 0x61, 2), "not now"),
+        (Do::Put(1, 0x61, 2), "met 1 of 0.1 at 61"),
+        (Do::End(0), "not now"),
+        (Do::Unput(0, 0x62), "not now"),
+        (Do::Unput(0, 0x61), "done"),
+        (Do::Put(1, 0x61, 2), "done"),
+        (Do::End(0), "done"),
+        (Do::Propose(1), "proposed 1"),
+        (Do::Put(1, 0x62, 2), "not now"),
+        (Do::Decide(1), "decided 1"),
+        (Do::Put(2, 0x61, 3), "met 2 of 1.1 at 61"),
+        (Do::End(2), "done"),
+        (Do::Begin(2), "began 1"),
+        (Do::Draw(2, 1), "not now"),
+        (Do::Draw(2, 2), "drew 4"),
+        (Do::Put(2, 0x61, 3), "done"),
+    ],
+};
+
+// A tombstone is forgotten only where each open transaction sees it; a snapshot goes on seeing what it saw.
+const TOMBSTONES: Run = Run {
+    others: 2,
+    events: &[
+        (Do::Begin(0), "began 0"),
+        (Do::Draw(0, 1), "drew 1"),
+        (Do::Put(0, 0x61, 0x0a), "done"),
+        (Do::Put(0, 0x63, 0x0c), "done"),
+        (Do::Propose(0), "proposed 1"),
+        (Do::Decide(0), "decided 1"),
+        (Do::Purge(0x61), "not now"),
+        (Do::End(0), "done"),
+        (Do::Begin(1), "began 1"),
+        (Do::Begin(0), "began 1"),
+        (Do::Draw(0, 2), "drew 2"),
+        (Do::PutTombstone(0, 0x61), "done"),
+        (Do::Purge(0x61), "not now"),
+        (Do::Put(0, 0x62, 0x0b), "done"),
+        (Do::Propose(0), "proposed 2"),
+        (Do::Decide(0), "decided 2"),
+        (Do::End(0), "done"),
+        (Do::Begin(2), "began 2"),
+        (Do::Purge(0x61), "not now"),
+        (Do::Read(1, 0x61, 0), "cells 61=0a 63=0c"),
+        (Do::Read(2, 0x61, 0), "cells 62=0b 63=0c"),
+        (Do::Read(2, 0x62, 0x63), "cells 62=0b"),
+        (Do::Read(2, 0x63, 0x62), "cells"),
+        (Do::End(1), "done"),
+        (Do::Purge(0x61), "done"),
+        (Do::Purge(0x62), "not now"),
+        (Do::Purge(0x7a), "not now"),
+        (Do::Read(2, 0x61, 0), "cells 62=0b 63=0c"),
+    ],
+};
+
+// Of the keys that were put between, the least is named, with the newest commit below the proposed number.
+const THE_LEAST_KEY_AND_ITS_NEWEST_COMMIT: Run = Run {
+    others: 2,
+    events: &[
+        (Do::Begin(0), "began 0"),
+        (Do::Read(0, 0x61, 0x63), "cells"),
+        (Do::Begin(1), "began 0"),
+        (Do::Draw(1, 1), "drew 1"),
+        (Do::Put(1, 0x62, 1), "done"),
+        (Do::Propose(1), "proposed 1"),
+        (Do::Decide(1), "decided 1"),
+        (Do::End(1), "done"),
+        (Do::Begin(1), "began 1"),
+        (Do::Draw(1, 2), "drew 2"),
+        (Do::Put(1, 0x61, 2), "done"),
+        (Do::Propose(1), "proposed 2"),
+        (Do::Decide(1), "decided 2"),
+        (Do::End(1), "done"),
+        (Do::Begin(2), "began 2"),
+        (Do::Draw(2, 1), "drew 3"),
+        (Do::Put(2, 0x61, 3), "done"),
+        (Do::Propose(2), "proposed 3"),
+        (Do::Decide(2), "decided 3"),
+        (Do::End(2), "done"),
+        (Do::Draw(0, 1), "drew 4"),
+        (Do::Propose(0), "proposed 4"),
+        (Do::Check(0, 0x61, 0x63), "met 3 of 2.1 at 61"),
+        (Do::Check(0, 0x62, 0x63), "met 1 of 1.1 at 62"),
+        (Do::Check(0, 0x63, 0), "done"),
+        (Do::Begin(1), "began 3"),
+        (Do::Read(1, 0x61, 0), "cells 61=03 62=01"),
+    ],
+};
+
+// What is not enabled changes nothing.
+const NOT_ENABLED: Run = Run {
+    others: 1,
+    events: &[
+        (Do::Draw(0, 1), "not now"),
+        (Do::End(0), "not now"),
+        (Do::Begin(0), "began 0"),
+        (Do::Begin(0), "not now"),
+        (Do::Propose(0), "not now"),
+        (Do::Check(0, 0x61, 0), "not now"),
+        (Do::Decide(0), "not now"),
+        (Do::Put(0, 0x61, 1), "not now"),
+        (Do::Draw(0, 0), "not now"),
+        (Do::Draw(0, 5), "drew 1"),
+        (Do::Draw(0, 6), "not now"),
+        (Do::Read(0, 0x61, 0), "not now"),
+        (Do::Put(0, 0x61, 1), "done"),
+        (Do::Propose(0), "proposed 1"),
+        (Do::Decide(0), "decided 1"),
+        (Do::Decide(0), "not now"),
+        (Do::Unput(0, 0x61), "not now"),
+        (Do::Put(0, 0x62, 1), "not now"),
+        (Do::Propose(0), "not now"),
+        (Do::End(0), "done"),
+        (Do::End(0), "not now"),
+        (Do::Begin(0), "began 1"),
+        (Do::Draw(0, 5), "not now"),
+        (Do::Draw(0, 6), "drew 2"),
+        (Do::Read(7, 0x61, 0), "not now"),
+        (Do::Put(7, 0x61, 1), "not now"),
+    ],
+};
+
+#[test]
+fn each_event_is_answered_by_the_table(rt: HostRuntime) -> Result<(), Fail> {
+    let alloc = rt.alloc();
+    let runs = [
+        ONE_COMMIT,
+        WRITE_SKEW,
+        UNDER_A_NEWER_ONE,
+        LOST_AND_PROPOSED_AGAIN,
+        PUTS_MEET,
+        TOMBSTONES,
+        THE_LEAST_KEY_AND_ITS_NEWEST_COMMIT,
+        NOT_ENABLED,
+    ];
+    for run in runs {
+        let mut core = Core::new(alloc, u32::from(run.others) + 1)?;
+        for (what, wanted) in run.events {
+            let outcome = core.step(&event(alloc, *what)?)?;
+            assert_eq!(rt; answer(alloc, &outcome)?.as_str(), *wanted);
+        }
+    }
+    Ok(())
+}
