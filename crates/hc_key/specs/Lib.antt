@@ -1,0 +1,5 @@
+pub mod Keys
+pub mod Order
+pub mod Laws
+pub mod Reading
+pub mod Pieces
