@@ -24,3 +24,4 @@ pub mod Steps
 pub mod Upheld
 pub mod Won
 pub mod Asked
+pub mod FirstVersion

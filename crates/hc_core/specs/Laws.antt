@@ -1,9 +1,9 @@
 -- What holds of the machine's table, and so after any run: from a new machine for any number of connections,
 -- over any events in any order.
-use Rattle.std.specs.Prelude.{◌≡◌, ◌≢◌, ℕ, List, ◌⊎◌}
+use Rattle.std.specs.Prelude.{◌≡◌, ◌≢◌, ℕ, List, ◌∷◌, ◌⊎◌, ◌↔◌}
 use Rattle.hc_core.specs.Lookup.{Among}
 use Rattle.hc_core.specs.Account.{Txn, PartRead, Refusal, Stands, HasRead}
-use Rattle.hc_core.specs.Versions.{AreCellsAfter}
+use Rattle.hc_core.specs.Versions.{AreCellsAfter, AreVersions, IsFirstVersion}
 use Rattle.hc_core.specs.Machine.{Machine, start, Answers, after, Runs, txns_of}
 use Rattle.hc_core.specs.Sound.{IsSound, NonePutBetween, NamesWriter}
 use Rattle.hc_core.specs.declared.account.Entry.{Entry}
@@ -42,3 +42,8 @@ FirstCommitterWins m = (i : ℕ) (t : Txn) (key : List ℕ) → Among t (txns_of
 abbrev pub RefusalsNameWriters : Machine → Type 0
 RefusalsNameWriters m = (i : ℕ) (t : Txn) (r : Refusal) → Among t (txns_of m i) → Among r t.refusals
     → NamesWriter (txns_of m) i t.snapshot r
+
+-- what is called the first version of a key is the one with which its versions begin
+abbrev pub VersionsBeginWithTheFirst : Type 0
+VersionsBeginWithTheFirst = (of : ℕ → List Txn) (key : List ℕ) (versions : List Txn) (i : ℕ) (t : Txn) → AreVersions of key versions
+    → Among t (of i) → IsFirstVersion of key i t ↔ ((older : List Txn) × (versions ≡ t ∷ older))

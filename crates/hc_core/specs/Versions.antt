@@ -31,6 +31,20 @@ pub record AreCellsAfter (of : ℕ → List Txn) (k : ℕ) (part : Range) (cells
   pub ascending : AreAscending cells
   pub exact : (key rec : List ℕ) → Among (record { key = key; rec = rec }) cells ↔ (InRange part key × HasAfter of k key (Some rec))
 
+-- transactions stand newest first: an undecided one before all others, and then from the greatest commit number down
+abbrev pub IsNewerThanEach : Txn → List Txn → Type 0
+IsNewerThanEach t [] = Unit {0}
+IsNewerThanEach t (u ∷ us) = ((u.place ≢ 0) × ((t.place ≡ 0) ⊎ (u.place < t.place))) × IsNewerThanEach t us
+
+abbrev pub AreNewestFirst : List Txn → Type 0
+AreNewestFirst [] = Unit {0}
+AreNewestFirst (t ∷ ts) = IsNewerThanEach t ts × AreNewestFirst ts
+
+-- the versions of a key: exactly the transactions in which it stands put, the newest first
+pub record AreVersions (of : ℕ → List Txn) (key : List ℕ) (versions : List Txn) : Type 0 where
+  pub exact : (t : Txn) → Among t versions ↔ ((i : ℕ) × Among t (of i) × Stands t key)
+  pub ordered : AreNewestFirst versions
+
 -- transaction t of connection i has the first version of a key: it is undecided, or no undecided one has
 -- the key and no greater commit put it
 abbrev pub IsFirstVersion : (ℕ → List Txn) → List ℕ → ℕ → Txn → Type 0
