@@ -1,0 +1,3 @@
+pub mod Canonical
+pub mod Expressions
+pub mod Words
