@@ -1,0 +1,24 @@
+-- The canonical text of a statement is read as that statement.
+pub mod Slices
+pub mod Given
+pub mod Apart
+pub mod Trees
+pub mod Written
+pub mod Signs
+pub mod Lists
+pub mod Keywords
+pub mod Numbers
+pub mod Blobs
+pub mod Names
+pub mod Parts
+pub mod Lifts
+pub mod Deep
+pub mod Operators
+pub mod Tests
+pub mod Primaries
+pub mod Expressions
+pub mod Queries
+pub mod Statements
+pub mod Whole
+pub mod More
+pub mod MoreStatements

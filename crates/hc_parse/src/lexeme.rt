@@ -1,0 +1,94 @@
+// What one token means: names and literals.
+ghost use Rattle.std.specs.Prelude.{◌≡◌, true, pos, IfOk};
+ghost use Rattle.hc_parse.specs.Literals.{also, name_of, unquoted, blob_of, literal_of, number_of, integer_of, is_least};
+ghost use Rattle.hc_parse.specs.Kinds.{is};
+ghost use Rattle.hc_parse.specs.Seen.{lexeme_of};
+
+use crate::kinds::is_kind;
+use crate::piece::Piece;
+use crate::quoted::{blob_of, unquoted};
+use hc_lex::{Keyword, TokenKind};
+use hc_value::{NoMemory, Str, Value};
+use std::alloc::Global;
+
+/// The name that a token is.
+pub fn name_of(alloc: Global, piece: &Piece<'_>) -> Result<Option<Str>, NoMemory>
+    ensures { IfOk result (λ name. name ≡ name_of (lexeme_of piece.now)) }
+{
+    if is_kind(piece, TokenKind::Name) {
+        return Ok(Some(Str::from_text(alloc, piece.text)?));
+    }
+    if is_kind(piece, TokenKind::QuotedName) {
+        return unquoted(alloc, b'"', piece.text);
+    }
+    Ok(None)
+}
+
+/// The number of an integer, and 0 else.
+pub fn number_of(kind: TokenKind) -> u64
+    ensures { result ≡ number_of kind }
+{
+    match kind {
+        TokenKind::Integer(n) => n,
+        _ => 0,
+    }
+}
+
+/// Whether a token is 9223372036854775808, which is no literal by itself.
+pub fn is_least(piece: &Piece<'_>) -> bool
+    ensures { result ≡ is_least (lexeme_of piece.now) }
+{
+    is_kind(piece, TokenKind::Integer(0)) && number_of(piece.token.kind) == 1 << 63
+}
+
+// The number of an integer that is a literal.
+fn integer_of(piece: &Piece<'_>) -> Option<i64>
+    ensures { also (λ n. Value.Int n) result ≡ also (λ n. Value.Int (pos n)) (integer_of (lexeme_of piece.now)) }
+{
+    let number = number_of(piece.token.kind);
+    if is_kind(piece, TokenKind::Integer(0)) && number < 1 << 63 {
+        Some(number as i64)
+    } else {
+        None
+    }
+}
+
+/// The literal that a token is.
+pub fn literal_of(alloc: Global, piece: &Piece<'_>) -> Result<Option<Value>, NoMemory>
+    ensures { IfOk result (λ value. value ≡ literal_of (lexeme_of piece.now)) }
+{
+    if is_kind(piece, TokenKind::Keyword(Keyword::Null)) {
+        return Ok(Some(Value::Null));
+    }
+    if is_kind(piece, TokenKind::Text) {
+        return text_value(alloc, piece.text);
+    }
+    if is_kind(piece, TokenKind::Blob) {
+        return blob_value(alloc, piece);
+    }
+    Ok(match integer_of(piece) {
+        Some(n) => Some(Value::Int(n)),
+        None => None,
+    })
+}
+
+fn text_value(alloc: Global, text: &str) -> Result<Option<Value>, NoMemory>
+    ensures { IfOk result (λ value. value ≡ also Value.Text (unquoted 39 text.now)) }
+{
+    Ok(match unquoted(alloc, b'\'', text)? {
+        Some(inner) => Some(Value::Text(inner)),
+        None => None,
+    })
+}
+
+fn blob_value(alloc: Global, piece: &Piece<'_>) -> Result<Option<Value>, NoMemory>
+    requires { is TokenKind.Blob (lexeme_of piece.now) ≡ true }
+    ensures { IfOk result (λ value. value ≡ also Value.Blob (blob_of piece.now.text.now)) }
+{
+    // A copy, of which it is known that its digits are hexadecimal.
+    let own = *piece;
+    Ok(match blob_of(alloc, own.text.as_bytes())? {
+        Some(inner) => Some(Value::Blob(inner)),
+        None => None,
+    })
+}
