@@ -1,17 +1,19 @@
 -- The bytes of a text or a blob, read up to their end or up to a fault.
 use Rattle.std.proofs.Common.{◌≡◌, ℕ, zero, suc, ◌+◌, ◌-◌, ◌≤◌, List, [], ◌∷◌, ◌++◌, length, refl, sym, ap, subst, ◌∙◌, arith, append_assoc}
-use Rattle.std.proofs.lemmas.Str.{IsUtf8-nil}
+use Rattle.std.proofs.lemmas.Str.{IsUtf8-nil, IsUtf8-encode, encode_ascii}
+use Rattle.std.specs.Str.{IsUtf8}
+use lib.Utf8.{low_scalar}
 use Rattle.std.proofs.lemmas.List.{append-nil, length-append}
 use Rattle.std.proofs.lemmas.List.Concat.{flat_map-append}
-use Rattle.hc_key.specs.declared.expected.Expected.{Expected}
-use Rattle.hc_key.specs.declared.expected.Expected.TheVariants.{Any, Character, Following}
+use Rattle.hc_value.specs.declared.expected.Expected.{Expected}
+use Rattle.hc_value.specs.declared.expected.Expected.TheVariants.{Any, Character, Following}
 use Rattle.hc_key.specs.Keys.{escape, escaped, ended}
-use Rattle.hc_key.specs.Reading.{Follows, Completes, IsOpen, IsContent, BeginsOne, NoneGoesOn, IsFaultOf, IsPartFault}
+use Rattle.hc_key.specs.Reading.{IsContent, BeginsOne, NoneGoesOn, IsFaultOf, IsPartFault}
+use Rattle.hc_value.specs.Expected.{Follows, Completes, IsOpen}
 use Rattle.hc_key.specs.declared.fault.KeyFault.{KeyFault}
 use Rattle.hc_key.specs.declared.fault.KeyFault.TheVariants.{Bad}
-use Rattle.hc_key.specs.Pieces.{IsNext, IsRefused, GoesOn}
+use Rattle.hc_value.specs.Expected.{IsNext, IsRefused, GoesOn}
 use Rattle.hc_key.proofs.Bytes.{closed}
-use Rattle.hc_key.proofs.Characters.{first_of_one}
 
 -- ---- what is expected can come
 
@@ -30,7 +32,7 @@ some_completes (Following more low high) alive = filled more low high alive.2
 -- a text that may go on with a zero may end there, and the other way round
 ends_before_zero : (e : Expected) → IsOpen e → Completes e [] → Completes e (0 ∷ [])
 ends_before_zero Any alive done = tt
-ends_before_zero Character alive done = (first_of_one 0 (omega arith) []).0 done
+ends_before_zero Character alive done = subst IsUtf8 (encode_ascii 0 (omega arith)) (IsUtf8-encode 0 (low_scalar 0 (omega arith)))
 ends_before_zero (Following zero low high) alive done = absurd (omega (arith, alive.0))
 ends_before_zero (Following (suc more) low high) alive done = absurd done
 

@@ -1,5 +1,4 @@
 mod Bytes
-mod Characters
 mod Contents
 mod Order
 mod Parts

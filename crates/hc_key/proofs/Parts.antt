@@ -9,12 +9,13 @@ use Rattle.std.proofs.lemmas.List.{append-nil, length-append, length-replicate, 
 use Rattle.hc_value.specs.declared.value.Value.{Value}
 use Rattle.hc_value.specs.declared.value.Value.TheVariants.{Null, Int, Text, Blob}
 use Rattle.hc_value.specs.Values.{IsValue}
-use Rattle.hc_key.specs.declared.expected.Expected.{Expected}
-use Rattle.hc_key.specs.declared.expected.Expected.TheVariants.{Any, Character}
+use Rattle.hc_value.specs.declared.expected.Expected.{Expected}
+use Rattle.hc_value.specs.declared.expected.Expected.TheVariants.{Any, Character}
 use Rattle.hc_key.specs.declared.fault.KeyFault.{KeyFault}
 use Rattle.hc_key.specs.declared.fault.KeyFault.TheVariants.{Bad, NoMemory}
 use Rattle.hc_key.specs.Keys.{turned, ended, value_bytes}
-use Rattle.hc_key.specs.Reading.{Completes, IsContent, IsValuePart, NoneGoesOn, IsFaultOf, IsPartFault}
+use Rattle.hc_key.specs.Reading.{IsContent, IsValuePart, NoneGoesOn, IsFaultOf, IsPartFault}
+use Rattle.hc_value.specs.Expected.{Completes}
 
 -- ---- values by their classes
 

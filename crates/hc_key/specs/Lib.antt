@@ -2,4 +2,3 @@ pub mod Keys
 pub mod Order
 pub mod Laws
 pub mod Reading
-pub mod Pieces

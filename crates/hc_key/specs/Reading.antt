@@ -1,13 +1,12 @@
 -- Where bytes are no key: behind the bytes before the fault some key goes on, but none as these bytes do.
 use Rattle.std.specs.Prelude.{◌≡◌, ℕ, zero, suc, ◌+◌, ◌^◌, ◌<◌, ◌≤◌, List, [], ◌∷◌, ◌++◌, length}
-use Rattle.std.specs.Str.{IsUtf8}
 use Rattle.hc_value.specs.declared.value.Value.{Value}
 use Rattle.hc_value.specs.Values.{IsValue, AreValues}
 use Rattle.hc_key.specs.Keys.{ended, value_bytes, key_bytes}
 use Rattle.hc_key.specs.declared.fault.KeyFault.{KeyFault}
 use Rattle.hc_key.specs.declared.fault.KeyFault.TheVariants.{Bad, NoMemory}
-use Rattle.hc_key.specs.declared.expected.Expected.{Expected}
-use Rattle.hc_key.specs.declared.expected.Expected.TheVariants.{Any, Character, Following}
+use Rattle.hc_value.specs.declared.expected.Expected.{Expected}
+use Rattle.hc_value.specs.Expected.{Completes}
 
 -- the bytes are the key of a tree number of 32 bits and a list of values
 abbrev pub IsKey : List ℕ → Type 0
@@ -55,24 +54,6 @@ IsPartFault Is bytes place NoMemory = Unit {0}
 -- a value
 abbrev pub IsValuePart : List ℕ → Type 0
 IsValuePart bytes = (v : Value) × IsValue v × (value_bytes v ≡ bytes)
-
--- So many bytes, of which the first lies in a range and the others in 80 to BF, and then a text.
-abbrev pub Follows : ℕ → ℕ → ℕ → List ℕ → Type 0
-Follows zero low high bytes = IsUtf8 bytes
-Follows (suc more) low high [] = ⊥
-Follows (suc more) low high (b ∷ bytes) = (low ≤ b) × (b ≤ high) × Follows more 0x80 0xBF bytes
-
--- the bytes are what is expected
-abbrev pub Completes : Expected → List ℕ → Type 0
-Completes Any bytes = Unit {0}
-Completes Character bytes = IsUtf8 bytes
-Completes (Following more low high) bytes = Follows more low high bytes
-
--- some bytes are what is expected, and none of them is 0 within a character
-abbrev pub IsOpen : Expected → Type 0
-IsOpen Any = Unit {0}
-IsOpen Character = Unit {0}
-IsOpen (Following more low high) = (1 ≤ more) × (128 ≤ low) × (low ≤ high)
 
 -- what is expected, with its zeros escaped and its end
 abbrev pub IsContent : Expected → List ℕ → Type 0

@@ -1,10 +1,11 @@
 // The bytes of a text or a blob, read up to their end.
 ghost use Rattle.std.specs.Prelude.{◌≡◌, ◌+◌, ◌-◌, ◌^◌, ◌<◌, ◌≤◌, List, ℕ, ◌∷◌, ◌++◌, length, IfOk, IfErr, IfSome, IfNone};
 ghost use Rattle.hc_key.specs.Keys.{escape, ended};
-ghost use Rattle.hc_key.specs.Reading.{Completes, IsOpen, IsContent, IsPartFault};
+ghost use Rattle.hc_key.specs.Reading.{IsContent, IsPartFault};
+ghost use Rattle.hc_value.specs.Expected.{Completes, IsOpen};
 
 use crate::KeyFault;
-use crate::expected::{Expected, next};
+use hc_value::{Expected, next_expected};
 use std::alloc::Global;
 
 /// The bytes up to the end of the text or the blob, and what follows. They begin at a place of the key.
@@ -23,7 +24,7 @@ pub fn content<'a>(
     let mut rest = bytes;
     let mut expected = first;
     while let Some((byte, after)) = rest.split_first() {
-        let Some(behind) = next(expected, *byte) else {
+        let Some(behind) = next_expected(expected, *byte) else {
             return Err(bad_at(place, bytes, rest));
         };
         let Some(left) = behind_escape(*byte, after) else {

@@ -4,7 +4,6 @@
 #![tactic(auto)]
 
 mod content;
-mod expected;
 mod fault;
 mod key;
 mod laws;

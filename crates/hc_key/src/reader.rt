@@ -6,8 +6,7 @@ ghost use Rattle.hc_key.specs.Reading.{IsValuePart, IsPartFault};
 
 use crate::KeyFault;
 use crate::content::content;
-use crate::expected::Expected;
-use hc_value::{Blob, Str, Value};
+use hc_value::{Blob, Expected, Str, Value};
 use std::alloc::Global;
 
 /// A value behind the first byte of it, which tells its class and stands at the place; and what follows it.

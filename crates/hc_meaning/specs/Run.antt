@@ -3,7 +3,7 @@
 use Rattle.std.specs.Prelude.{◌≡◌, ◌≢◌, ℤ, List, [], ◌∷◌, length, map, if◌then◌else◌, is_some, codes}
 use Rattle.hc_value.specs.declared.value.Value.TheVariants.{Int}
 use Rattle.hc_reply.specs.declared.reply.Line.TheVariants.{Ok, Error}
-use Rattle.hc_reply.specs.declared.reply.Refusal.TheVariants.{Primary}
+use Rattle.hc_reply.specs.declared.refusal.Refusal.TheVariants.{Primary}
 use Rattle.hc_reply.specs.declared.reply.Reply.{Reply}
 use Rattle.hc_meaning.specs.declared.answer.Answer.{Answer}
 use Rattle.hc_meaning.specs.declared.answer.Outcome.{Outcome}

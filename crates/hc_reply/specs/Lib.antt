@@ -1,1 +1,12 @@
+pub mod Words
+pub mod Openings
 pub mod Output
+pub mod Parts
+pub mod Items
+pub mod Numbers
+pub mod Reading
+pub mod Blobs
+pub mod Rows
+pub mod Stops
+pub mod Progress
+pub mod Laws

@@ -1,4 +1,5 @@
-use hc_value::{Str, Value};
+use crate::Refusal;
+use hc_value::Value;
 use sqlite_items::Items;
 
 /// One row of a query's result: its values, from the left.
@@ -6,13 +7,6 @@ use sqlite_items::Items;
 pub struct Row {
     /// From the left, one for each column of the result.
     pub values: Items<Value>,
-}
-
-/// Why a statement was refused. Numbers are SQLite's result codes.
-#[derive(Debug, Drop)]
-pub enum Refusal {
-    /// 1555, `SQLITE_CONSTRAINT_PRIMARYKEY`: a row with this key is there. `name` is the key's column.
-    Primary { table: Str, name: Str },
 }
 
 /// The last line of a reply, which tells how its statement went.

@@ -7,6 +7,7 @@
 #![tactic(auto)]
 
 mod blob;
+mod expected;
 mod laws;
 mod order;
 mod storage;
@@ -16,6 +17,7 @@ mod text;
 mod value;
 
 pub use blob::Blob;
+pub use expected::{Expected, next_expected};
 pub use laws::{
     a_value_is_one, the_order_of_values_is_total,
     values_are_equal_in_order_exactly_when_they_are_the_same,

@@ -120,13 +120,5 @@ fn same_line(a: &Line, b: &Line) -> bool
 fn same_refusal(a: &Refusal, b: &Refusal) -> bool
     ensures { IsTrue result ↔ (a.now ≡ b.now) }
 {
-    let Refusal::Primary {
-        table: table_a,
-        name: name_a,
-    } = a;
-    let Refusal::Primary {
-        table: table_b,
-        name: name_b,
-    } = b;
-    table_a.as_bytes() == table_b.as_bytes() && name_a.as_bytes() == name_b.as_bytes()
+    a.is_same(b)
 }

@@ -1,0 +1,274 @@
+-- The digits of numbers: what begins with the digits of another, and where the digits end.
+use Rattle.std.proofs.Common.{◌≡◌, ◌∙◌, ap, ℕ, zero, suc, ◌+◌, ◌*◌, ◌/◌, ◌%◌, ◌^◌, ◌<◌, ◌≤◌, ◌⊎◌, inl, inr, List, [], ◌∷◌, ◌++◌, length, refl, sym, subst, append_assoc, arith}
+use Rattle.std.specs.Prelude.{decimal}
+use Rattle.std.proofs.lemmas.List.{append-nil, length-append}
+use Rattle.std.proofs.Math.ListN.{get_or}
+use Rattle.std.proofs.lemmas.Bool.{cases_lt}
+use Rattle.std.specs.Str.Parse.{digits_value_after, digits_value}
+use Rattle.std.specs.Char.{digit_value}
+use Rattle.std.proofs.lemmas.Fmt.{decimal_step, decimal_step_wide, decimal_digit, decimal_by_steps, decimal_injective, decimal_is_IsNumeral, decimal_is_IsNumeral_wide, decimal_nonempty, first_decimal}
+use Rattle.hc_reply.specs.Stops.{NoDigit, SameFirst, IsStuck, IsPrefixFree}
+use Rattle.hc_reply.specs.Numbers.{IsWithin, BeginsWith, SomeBegins, NoneBegins}
+
+abbrev IsDigit : ℕ → Type 0
+IsDigit c = (48 ≤ c) × (c < 58)
+
+abbrev pub AreDigits : List ℕ → Type 0
+AreDigits [] = Unit {0}
+AreDigits (c ∷ cs) = IsDigit c × AreDigits cs
+
+digits_more : (cs : List ℕ) (d : ℕ) → AreDigits cs → d < 10 → AreDigits (cs ++ (48 + d) ∷ [])
+digits_more [] d are small = ((omega arith, omega arith), tt)
+digits_more (c ∷ cs) d are small = (are.0, digits_more cs d are.1 small)
+
+pub decimal_digits : (n : ℕ) → n < 2 ^ 64 → AreDigits (decimal n)
+decimal_digits = decimal_by_steps (λ m ds. AreDigits ds) (λ m l. ((omega arith, omega arith), tt)) (λ m ds l h. digits_more ds (m % 10) h (omega arith))
+
+-- ---- the end of digits
+
+-- digits that go on to a digit of the other side go on with it
+pub covers : (xs behind ds : List ℕ) (c : ℕ) (o : List ℕ) → AreDigits ds → IsDigit c → NoDigit behind → xs ++ behind ≡ ds ++ c ∷ o → (more : List ℕ) × (xs ≡ ds ++ c ∷ more)
+covers [] behind [] c o are is nd e = absurd (no_digit (subst NoDigit e nd) is)
+  where
+    no_digit : NoDigit (c ∷ o) → IsDigit c → ⊥
+    no_digit (inl low) is = omega (arith, is.0)
+    no_digit (inr high) is = omega (arith, is.1)
+covers [] behind (d ∷ ds) c o are is nd e = absurd (no_digit (subst NoDigit e nd) are.0)
+  where
+    no_digit : NoDigit (d ∷ ds ++ c ∷ o) → IsDigit d → ⊥
+    no_digit (inl low) is = omega (arith, is.0)
+    no_digit (inr high) is = omega (arith, is.1)
+covers (x ∷ xs) behind [] c o are is nd e = let first : x ≡ c = cc in (xs, ap (λ (k : ℕ). k ∷ xs) first)
+covers (x ∷ xs) behind (d ∷ ds) c o are is nd e =
+    let first : x ≡ d = cc in
+    let rest : xs ++ behind ≡ ds ++ c ∷ o = cc in
+    let more = covers xs behind ds c o are.1 is nd rest in
+    (more.0, (λ i. first i ∷ more.1 i))
+
+-- digits end where no digit follows
+pub same_digits : (xs ys r s : List ℕ) → AreDigits xs → AreDigits ys → NoDigit r → NoDigit s → xs ++ r ≡ ys ++ s → (xs ≡ ys) × (r ≡ s)
+same_digits [] [] r s dx dy nr ns e = (refl, e)
+same_digits [] (y ∷ ys) r s dx dy nr ns e = absurd (let c = covers [] r [] y (ys ++ s) tt dy.0 nr e in cc)
+same_digits (x ∷ xs) [] r s dx dy nr ns e = absurd (let c = covers [] s [] x (xs ++ r) tt dx.0 ns (sym e) in cc)
+same_digits (x ∷ xs) (y ∷ ys) r s dx dy nr ns e =
+    let first : x ≡ y = cc in
+    let rest : xs ++ r ≡ ys ++ s = cc in
+    let more = same_digits xs ys r s dx.1 dy.1 nr ns rest in
+    ((λ i. first i ∷ more.0 i), more.1)
+
+-- ---- numbers that begin with the digits of another
+
+ends_alike : (xs ys : List ℕ) (a b : ℕ) → xs ++ a ∷ [] ≡ ys ++ b ∷ [] → xs ≡ ys
+ends_alike [] [] a b e = refl
+ends_alike [] (y ∷ ys) a b e = absurd (omega (arith, ap length e, length-append ys (b ∷ [])))
+ends_alike (x ∷ xs) [] a b e = absurd (omega (arith, ap length e, length-append xs (a ∷ [])))
+ends_alike (x ∷ xs) (y ∷ ys) a b e =
+    let first : x ≡ y = cc in
+    let rest : xs ++ a ∷ [] ≡ ys ++ b ∷ [] = cc in
+    λ i. first i ∷ ends_alike xs ys a b rest i
+
+-- a list is empty or has a last element
+last_of : (xs : List ℕ) → (xs ≡ []) ⊎ ((front : List ℕ) × (a : ℕ) × (xs ≡ front ++ a ∷ []))
+last_of [] = inl refl
+last_of (x ∷ xs) = by (last_of xs)
+  where
+    by : (xs ≡ []) ⊎ ((front : List ℕ) × (a : ℕ) × (xs ≡ front ++ a ∷ [])) → (x ∷ xs ≡ []) ⊎ ((front : List ℕ) × (a : ℕ) × (x ∷ xs ≡ front ++ a ∷ []))
+    by (inl none) = inr ([], x, ap (λ (l : List ℕ). x ∷ l) none)
+    by (inr some) = inr (x ∷ some.0, some.1, ap (λ (l : List ℕ). x ∷ l) some.2)
+
+-- the digits of a number above m that begin with those of m do so without their last one
+pub shorter_begins : (n m : ℕ) → n < 2 ^ 64 → m < n → 10 ≤ n → BeginsWith n m → BeginsWith (n / 10) m
+shorter_begins n m small above ten begins = by (last_of begins.0)
+  where
+    by : (begins.0 ≡ []) ⊎ ((front : List ℕ) × (a : ℕ) × (begins.0 ≡ front ++ a ∷ [])) → BeginsWith (n / 10) m
+    by (inl none) =
+        let same : decimal n ≡ decimal m = begins.1 ∙ ap (λ (l : List ℕ). decimal m ++ l) none ∙ append-nil (decimal m) in
+        absurd (omega (arith, decimal_injective n m small (omega arith) same))
+    by (inr some) = (
+      some.0,
+      ends_alike (decimal (n / 10)) (decimal m ++ some.0) (48 + n % 10) some.1
+          (sym (decimal_step n ten small) ∙ begins.1 ∙ ap (λ (l : List ℕ). decimal m ++ l) some.2 ∙ sym (append_assoc (decimal m) some.0 (some.1 ∷ []))),
+    )
+
+value_after : (a : ℕ) (xs ys : List ℕ) → digits_value_after 10 a (xs ++ ys) ≡ digits_value_after 10 (digits_value_after 10 a xs) ys
+value_after a [] ys = refl
+value_after a (x ∷ xs) ys = value_after (a * 10 + digit_value x) xs ys
+
+value_grows : (n : ℕ) (ds : List ℕ) → n ≤ digits_value_after 10 n ds
+value_grows n [] = omega arith
+value_grows n (c ∷ cs) = omega (arith, value_grows (n * 10 + digit_value c) cs)
+
+-- a number that begins with the digits of m is no less than m
+pub begins_above : (n m : ℕ) → n < 2 ^ 64 → m < 10 ^ 64 → BeginsWith n m → m ≤ n
+begins_above n m small wide begins =
+    let whole : n ≡ digits_value_after 10 m begins.0 =
+    sym (decimal_is_IsNumeral n small).1 ∙ ap (digits_value 10) begins.1 ∙ value_after 0 (decimal m) begins.0
+    ∙ ap (λ (k : ℕ). digits_value_after 10 k begins.0) (decimal_is_IsNumeral_wide m wide).1 in
+    omega (arith, value_grows m begins.0)
+
+begins_itself : (m : ℕ) → BeginsWith m m
+begins_itself m = ([], sym (append-nil (decimal m)))
+
+first_digit : (n c : ℕ) (more : List ℕ) → n < 2 ^ 64 → decimal n ≡ c ∷ more → IsDigit c
+first_digit n c more small e = (subst AreDigits e (decimal_digits n small)).0
+
+-- ---- whether some number of a range begins so
+
+pub some_itself : (m low high : ℕ) → low ≤ m → m ≤ high → SomeBegins m low high
+some_itself m low high above within = (m, (above, within), begins_itself m)
+
+pub none_above : (m low high : ℕ) → high < 2 ^ 64 → m < 10 ^ 64 → high < m → NoneBegins m low high
+none_above m low high small wide above n is begins = omega (arith, is.1, begins_above n m (omega (arith, is.1)) wide begins)
+
+pub none_with_zero : (low high : ℕ) → high < 2 ^ 64 → 0 < low → NoneBegins 0 low high
+none_with_zero low high small above n is begins =
+    let first : get_or (decimal n) 0 0 ≡ 48 = ap (λ (l : List ℕ). get_or l 0 0) (begins.1 ∙ ap (λ (l : List ℕ). l ++ begins.0) (decimal_digit 0 (omega arith))) in
+    omega (arith, first, first_decimal n (omega (arith, is.0)) (omega (arith, is.1)))
+
+pub some_longer : (m low high : ℕ) → high < 2 ^ 64 → low ≤ high → 0 < m → m < 2 ^ 64 → SomeBegins m (low / 10) (high / 10) → SomeBegins m low high
+some_longer m low high small le some fits shorter = by (cases_lt (shorter.0 * 10) low)
+  where
+    least : m ≤ shorter.0
+    least = begins_above shorter.0 m (omega (arith, shorter.1.1)) (omega arith) shorter.2
+
+    longer : (n : ℕ) → n / 10 ≡ shorter.0 → n ≤ high → BeginsWith n m
+    longer n is within = (
+      shorter.2.0 ++ (48 + n % 10) ∷ [],
+      decimal_step n (omega (arith, least)) (omega arith)
+          ∙ ap (λ (k : ℕ). decimal k ++ (48 + n % 10) ∷ []) is
+          ∙ ap (λ (l : List ℕ). l ++ (48 + n % 10) ∷ []) shorter.2.1
+          ∙ append_assoc (decimal m) shorter.2.0 ((48 + n % 10) ∷ []),
+    )
+
+    by : (shorter.0 * 10 < low) ⊎ (low ≤ shorter.0 * 10) → SomeBegins m low high
+    by (inl below) = let is : low / 10 ≡ shorter.0 = omega (arith, shorter.1.0) in (low, (omega arith, le), longer low is le)
+    by (inr above) =
+        let is : shorter.0 * 10 / 10 ≡ shorter.0 = omega arith in
+        let within : shorter.0 * 10 ≤ high = omega (arith, shorter.1.1) in
+        (shorter.0 * 10, (above, within), longer (shorter.0 * 10) is within)
+
+pub none_longer : (m low high : ℕ) → high < 2 ^ 64 → m < low → NoneBegins m (low / 10) (high / 10) → NoneBegins m low high
+none_longer m low high small below none n is begins = by (cases_lt n 10)
+  where
+    by : (n < 10) ⊎ (10 ≤ n) → ⊥
+    by (inl one) =
+        let same : (48 + n) ∷ [] ≡ (48 + m) ∷ begins.0 = sym (decimal_digit n one) ∙ begins.1 ∙ ap (λ (l : List ℕ). l ++ begins.0) (decimal_digit m (omega (arith, is.0))) in
+        let first : 48 + n ≡ 48 + m = cc in
+        omega (arith, first, is.0)
+    by (inr more) =
+        none (n / 10) (omega (arith, is.0), omega (arith, is.1)) (shorter_begins n m (omega (arith, is.1)) (omega (arith, is.0)) more begins)
+
+-- ---- a reader of digits, over its bytes
+
+module _ (low high : ℕ) (le : low ≤ high) (small : high < 2 ^ 64) where
+  abbrev Stuck : List ℕ → List ℕ → Type 0
+  Stuck bytes rest = IsStuck NoDigit (IsWithin low high) decimal bytes rest
+
+  fits : (v : ℕ) → IsWithin low high v → v < 2 ^ 64
+  fits v is = omega (arith, is.1)
+
+  pub no_digit_there : (rest other : List ℕ) → NoDigit rest → SameFirst rest other → NoDigit other
+  no_digit_there [] [] nd same = tt
+  no_digit_there [] (o ∷ other) nd same = absurd same
+  no_digit_there (r ∷ rest) [] nd same = absurd same
+  no_digit_there (r ∷ rest) (o ∷ other) nd same = subst (λ (b : ℕ). NoDigit (b ∷ other)) same nd
+
+  -- what goes on with the same digit
+  digit_there : (c : ℕ) (rest other : List ℕ) → SameFirst (c ∷ rest) other → (o : List ℕ) × (other ≡ c ∷ o)
+  digit_there c rest [] same = absurd same
+  digit_there c rest (d ∷ other) same = (other, ap (λ (b : ℕ). b ∷ other) (sym same))
+
+  pub number_free : IsPrefixFree NoDigit (IsWithin low high) decimal
+  number_free v w r s isv isw nr ns e =
+      let both = same_digits (decimal v) (decimal w) r s (decimal_digits v (fits v isv)) (decimal_digits w (fits w isw)) nr ns e in
+      (decimal_injective v w (fits v isv) (fits w isw) both.0, both.1)
+
+  pub stuck_without_digit : (bytes : List ℕ) → NoDigit bytes → Stuck bytes bytes
+  stuck_without_digit bytes nd = record {
+    before = [];
+    splits = refl;
+    value = low;
+    more = decimal low;
+    has = (let h : low ≤ low = omega arith in h, le);
+    begins = refl;
+    none = λ v behind other is ends same e. wrong v (decimal v) refl behind other is (no_digit_there bytes other nd same) e;
+  }
+    where
+      wrong : (v : ℕ) (ds : List ℕ) → decimal v ≡ ds → (behind other : List ℕ) → IsWithin low high v → NoDigit other → decimal v ++ behind ≡ other → ⊥
+      wrong v [] is behind other within none e = omega (arith, decimal_nonempty v (fits v within), ap length is)
+      wrong v (c ∷ ds) is behind other within none e =
+          by (subst NoDigit (sym e ∙ ap (λ (l : List ℕ). l ++ behind) is) none) (first_digit v c ds (fits v within) is)
+        where
+          by : NoDigit (c ∷ ds ++ behind) → IsDigit c → ⊥
+          by (inl below) digit = omega (arith, digit.0)
+          by (inr above) digit = omega (arith, digit.1)
+
+  pub stuck_at_first : (d : ℕ) (bytes behind : List ℕ) → d < 10 → bytes ≡ (48 + d) ∷ behind → NoneBegins d low high → Stuck bytes bytes
+  stuck_at_first d bytes behind one all nd = record {
+    before = [];
+    splits = refl;
+    value = low;
+    more = decimal low;
+    has = (let h : low ≤ low = omega arith in h, le);
+    begins = refl;
+    none = λ v after other is ends same e.
+        let o = digit_there (48 + d) behind other (subst (λ (l : List ℕ). SameFirst l other) all same) in
+        let c = covers (decimal v) after [] (48 + d) o.0 tt (omega arith, omega arith) ends (e ∙ o.1) in
+        nd v is (c.0, c.1 ∙ ap (λ (l : List ℕ). l ++ c.0) (sym (decimal_digit d one)));
+  }
+
+  -- no number has a digit behind a first zero
+  no_more_behind_zero : (v : ℕ) (c : ℕ) (more : List ℕ) → v < 2 ^ 64 → decimal v ≡ 48 ∷ c ∷ more → ⊥
+  no_more_behind_zero zero c more fit e = omega (arith, ap length (sym (decimal_digit 0 (omega arith)) ∙ e))
+  no_more_behind_zero (suc v) c more fit e = omega (arith, ap (λ (l : List ℕ). get_or l 0 0) e, first_decimal (suc v) (omega arith) fit)
+
+  digit_behind : (n d : ℕ) → 0 < n → n < 2 ^ 64 → d < 10 → decimal (n * 10 + d) ≡ decimal n ++ (48 + d) ∷ []
+  digit_behind n d some fit one =
+      let front : (n * 10 + d) / 10 ≡ n = omega arith in
+      let end : 48 + (n * 10 + d) % 10 ≡ 48 + d = omega arith in
+      decimal_step_wide (n * 10 + d) (omega arith) (omega arith) ∙ (λ i. decimal (front i) ++ (end i ∷ []))
+
+  pub stuck_at_digit : (n d : ℕ) (bytes rest behind : List ℕ) → n < 2 ^ 64 → d < 10 → bytes ≡ decimal n ++ rest → rest ≡ (48 + d) ∷ behind → SomeBegins n low high
+      → (0 < n → NoneBegins (n * 10 + d) low high) → Stuck bytes rest
+  stuck_at_digit n d bytes rest behind fit one all first some nd = record {
+    before = decimal n;
+    splits = all;
+    value = some.0;
+    more = some.2.0;
+    has = some.1;
+    begins = some.2.1;
+    none = λ v after other is ends same e.
+        let o = digit_there (48 + d) behind other (subst (λ (l : List ℕ). SameFirst l other) first same) in
+        let c = covers (decimal v) after (decimal n) (48 + d) o.0 (decimal_digits n fit) (omega arith, omega arith) ends (e ∙ ap (λ (l : List ℕ). decimal n ++ l) o.1) in
+        by n refl v is c.0 c.1;
+  }
+    where
+      by : (k : ℕ) → k ≡ n → (v : ℕ) → IsWithin low high v → (more : List ℕ) → decimal v ≡ decimal n ++ (48 + d) ∷ more → ⊥
+      by zero k v is more e = no_more_behind_zero v (48 + d) more (fits v is) (e ∙ ap (λ (m : ℕ). decimal m ++ (48 + d) ∷ more) (sym k) ∙ ap (λ (l : List ℕ). l ++ (48 + d) ∷ more) (decimal_digit 0 (omega arith)))
+      by (suc j) k v is more e =
+          let above : 0 < n = omega arith in
+          nd above v is (more, e ∙ sym (append_assoc (decimal n) ((48 + d) ∷ []) more) ∙ ap (λ (l : List ℕ). l ++ more) (sym (digit_behind n d above fit one)))
+
+  pub stuck_too_low : (n : ℕ) (bytes rest : List ℕ) → n < 2 ^ 64 → bytes ≡ decimal n ++ rest → NoDigit rest → SomeBegins n low high → n < low → Stuck bytes rest
+  stuck_too_low n bytes rest fit all nd some below = record {
+    before = decimal n;
+    splits = all;
+    value = some.0;
+    more = some.2.0;
+    has = some.1;
+    begins = some.2.1;
+    none = λ v after other is ends same e.
+        let both = same_digits (decimal v) (decimal n) after other (decimal_digits v (fits v is)) (decimal_digits n fit) ends (no_digit_there rest other nd same) e in
+        omega (arith, decimal_injective v n (fits v is) fit both.0, is.0);
+  }
+
+  pub within_high : (n : ℕ) → n < 10 ^ 64 → SomeBegins n low high → n ≤ high
+  within_high n fit some = omega (arith, some.1.1, begins_above some.0 n (fits some.0 some.1) fit some.2)
+
+  pub one_more : (n d longer : ℕ) (bytes rest behind : List ℕ) → 0 < n → n < 2 ^ 64 → d < 10 → longer ≡ n * 10 + d → bytes ≡ decimal n ++ rest → rest ≡ (48 + d) ∷ behind → bytes ≡ decimal longer ++ behind
+  one_more n d longer bytes rest behind some fit one is all first =
+      all ∙ ap (λ (l : List ℕ). decimal n ++ l) first ∙ sym (append_assoc (decimal n) ((48 + d) ∷ []) behind)
+      ∙ ap (λ (l : List ℕ). l ++ behind) (sym (digit_behind n d some fit one) ∙ ap decimal (sym is))
+
+pub one_digit : (d : ℕ) (bytes behind : List ℕ) → d < 10 → bytes ≡ (48 + d) ∷ behind → bytes ≡ decimal d ++ behind
+one_digit d bytes behind one all = all ∙ ap (λ (l : List ℕ). l ++ behind) (sym (decimal_digit d one))

@@ -1,0 +1,84 @@
+-- An integer, read behind its minus or without one.
+use Rattle.std.proofs.Common.{◌≡◌, ◌≢◌, ◌∙◌, ap, ℕ, zero, suc, ◌-◌, ◌^◌, ◌<◌, ◌≤◌, ℤ, pos, negsuc, List, [], ◌∷◌, ◌++◌, length, refl, sym, subst, arith, w64, FitsSigned}
+use Rattle.std.specs.Prelude.{decimal}
+use Rattle.std.specs.Fmt.{signed_decimal}
+use Rattle.std.proofs.lemmas.Fmt.{decimal_nonempty}
+use Rattle.hc_reply.specs.Numbers.{IsWithin}
+use Rattle.hc_reply.specs.Stops.{NoDigit, NoMinus, SameFirst, IsStuck, IsPrefixFree}
+use Rattle.hc_reply.proofs.Digits.{AreDigits, decimal_digits, number_free}
+
+-- the first byte of a number is a digit
+pub decimal_head : (n : ℕ) (behind : List ℕ) (b : ℕ) (o : List ℕ) → n < 2 ^ 64 → decimal n ++ behind ≡ b ∷ o → (48 ≤ b) × (b < 58)
+decimal_head n behind b o small e = by (decimal n) (decimal_digits n small) (decimal_nonempty n small) e
+  where
+    by : (ds : List ℕ) → AreDigits ds → 0 < length ds → ds ++ behind ≡ b ∷ o → (48 ≤ b) × (b < 58)
+    by [] are some e = absurd (omega (arith, some))
+    by (d ∷ ds) are some e = let first : d ≡ b = cc in (omega (arith, are.0, first), omega (arith, are.0, first))
+
+-- where bytes begin with b, what goes on with the same byte does too
+pub head_there : (bytes before rest other t : List ℕ) (b : ℕ) → bytes ≡ before ++ rest → bytes ≡ b ∷ t → SameFirst rest other → (o : List ℕ) × (before ++ other ≡ b ∷ o)
+head_there bytes [] [] other t b splits first same = absurd (let bad : [] ≡ b ∷ t = sym splits ∙ first in cc)
+head_there bytes [] (r ∷ rest) [] t b splits first same = absurd same
+head_there bytes [] (r ∷ rest) (o ∷ other) t b splits first same =
+    let h : r ∷ rest ≡ b ∷ t = sym splits ∙ first in
+    let is : r ≡ b = cc in
+    (other, ap (λ (k : ℕ). k ∷ other) (sym same ∙ is))
+head_there bytes (x ∷ before) rest other t b splits first same =
+    let h : x ∷ (before ++ rest) ≡ b ∷ t = sym splits ∙ first in
+    let is : x ≡ b = cc in
+    (before ++ other, ap (λ (k : ℕ). k ∷ (before ++ other)) is)
+
+pub no_minus_there : (bytes before rest other : List ℕ) → bytes ≡ before ++ rest → SameFirst rest other → NoMinus bytes → NoMinus (before ++ other)
+no_minus_there bytes [] [] [] splits same none = tt
+no_minus_there bytes [] [] (o ∷ other) splits same none = absurd same
+no_minus_there bytes [] (r ∷ rest) [] splits same none = absurd same
+no_minus_there bytes [] (r ∷ rest) (o ∷ other) splits same none = subst (λ (k : ℕ). k ≢ 45) same (subst NoMinus splits none)
+no_minus_there bytes (x ∷ before) rest other splits same none = subst NoMinus splits none
+
+abbrev Stuck : List ℕ → List ℕ → Type 0
+Stuck bytes rest = IsStuck NoDigit (FitsSigned w64) signed_decimal bytes rest
+
+pub integer_free : IsPrefixFree NoDigit (FitsSigned w64) signed_decimal
+integer_free (pos m) (pos n) r s p q nr ns e =
+    let both = number_free 0 (2 ^ 63 - 1) (omega arith) (omega arith) m n r s (omega arith, omega (arith, p)) (omega arith, omega (arith, q)) nr ns e in
+    (ap pos both.0, both.1)
+integer_free (pos m) (negsuc n) r s p q nr ns e = absurd (let d = decimal_head m r 45 (decimal (suc n) ++ s) (omega (arith, p)) e in omega (arith, d.0))
+integer_free (negsuc m) (pos n) r s p q nr ns e = absurd (let d = decimal_head n s 45 (decimal (suc m) ++ r) (omega (arith, q)) (sym e) in omega (arith, d.0))
+integer_free (negsuc m) (negsuc n) r s p q nr ns e =
+    let inner : decimal (suc m) ++ r ≡ decimal (suc n) ++ s = cc in
+    let both = number_free 1 (2 ^ 63) (omega arith) (omega arith) (suc m) (suc n) r s (omega arith, omega (arith, p)) (omega arith, omega (arith, q)) nr ns inner in
+    (ap negsuc (omega (arith, both.0)), both.1)
+
+pub stuck_without_minus : (bytes rest : List ℕ) → NoMinus bytes → IsStuck NoDigit (IsWithin 0 (2 ^ 63 - 1)) decimal bytes rest → Stuck bytes rest
+stuck_without_minus bytes rest none s = record {
+  before = s.before;
+  splits = s.splits;
+  value = pos s.value;
+  more = s.more;
+  has = omega (arith, s.has.1);
+  begins = s.begins;
+  none = no_other;
+}
+  where
+    no_other : (z : ℤ) (behind other : List ℕ) → FitsSigned w64 z → NoDigit behind → SameFirst rest other → signed_decimal z ++ behind ≡ s.before ++ other → ⊥
+    no_other (pos n) behind other fits ends same e = s.none n behind other (omega arith, omega (arith, fits)) ends same e
+    no_other (negsuc n) behind other fits ends same e = subst NoMinus (sym e) (no_minus_there bytes s.before rest other s.splits same none) refl
+
+pub stuck_behind_minus : (bytes digits rest : List ℕ) → bytes ≡ 45 ∷ digits → IsStuck NoDigit (IsWithin 1 (2 ^ 63)) decimal digits rest → Stuck bytes rest
+stuck_behind_minus bytes digits rest minus s = by s.value refl
+  where
+    no_other : (z : ℤ) (behind other : List ℕ) → FitsSigned w64 z → NoDigit behind → SameFirst rest other → signed_decimal z ++ behind ≡ (45 ∷ s.before) ++ other → ⊥
+    no_other (pos n) behind other fits ends same e = let d = decimal_head n behind 45 (s.before ++ other) (omega (arith, fits)) e in omega (arith, d.0)
+    no_other (negsuc n) behind other fits ends same e = s.none (suc n) behind other (omega arith, omega (arith, fits)) ends same (let h : decimal (suc n) ++ behind ≡ s.before ++ other = cc in h)
+
+    by : (v : ℕ) → v ≡ s.value → Stuck bytes rest
+    by zero v = absurd (omega (arith, v, s.has.0))
+    by (suc n) v = record {
+      before = 45 ∷ s.before;
+      splits = minus ∙ ap (λ (l : List ℕ). 45 ∷ l) s.splits;
+      value = negsuc n;
+      more = s.more;
+      has = omega (arith, v, s.has.1);
+      begins = ap (λ (l : List ℕ). 45 ∷ l) (ap decimal v ∙ s.begins);
+      none = no_other;
+    }

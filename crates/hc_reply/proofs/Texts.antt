@@ -1,0 +1,252 @@
+-- A text in quotes, read up to its end or up to a fault.
+use Rattle.std.proofs.Common.{◌≡◌, ◌≢◌, ◌∙◌, ap, ◌==◌, if◌then◌else◌, ℕ, zero, suc, ◌<◌, ◌≤◌, ◌⊎◌, inl, inr, List, [], ◌∷◌, ◌++◌, length, refl, sym, subst, append_assoc, arith}
+use Rattle.std.specs.Str.{IsUtf8}
+use Rattle.std.proofs.lemmas.Bool.{cases_eq, ne_eqb}
+use Rattle.std.proofs.lemmas.Str.{IsUtf8-nil}
+use Rattle.std.proofs.lemmas.Grind.{flat_map-append}
+use Rattle.std.proofs.lemmas.List.{append-nil}
+use Rattle.hc_lex.specs.Quotes.{doubled}
+use Rattle.hc_value.specs.declared.expected.Expected.{Expected}
+use Rattle.hc_value.specs.declared.expected.Expected.TheVariants.{Any, Character, Following}
+use Rattle.hc_value.specs.Expected.{Follows, Completes, IsOpen, IsNext, IsRefused, GoesOn}
+use Rattle.hc_reply.specs.Output.{quoted}
+use Rattle.hc_reply.specs.Stops.{NoQuote, SameFirst, IsStuck, IsPrefixFree}
+
+-- a byte within quotes
+abbrev pub twice : ℕ → List ℕ
+twice b = if b == 39 then b ∷ b ∷ [] else b ∷ []
+
+twice_quote : (b : ℕ) → b ≡ 39 → twice b ≡ 39 ∷ 39 ∷ []
+twice_quote b is = subst (λ (k : ℕ). twice k ≡ 39 ∷ 39 ∷ []) (sym is) refl
+
+twice_other : (b : ℕ) → (b ≡ 39 → ⊥) → twice b ≡ b ∷ []
+twice_other b other = ap (λ k. if k then b ∷ b ∷ [] else b ∷ []) (ne_eqb b 39 other)
+
+pub doubled_more : (out : List ℕ) (b : ℕ) → doubled 39 (out ++ b ∷ []) ≡ doubled 39 out ++ twice b
+doubled_more out b = flat_map-append twice out (b ∷ []) ∙ ap (λ (l : List ℕ). doubled 39 out ++ l) (append-nil (twice b))
+
+abbrev Behind : List ℕ → List ℕ → List ℕ → List ℕ → Type 0
+Behind out v behind y = (d : List ℕ) × (v ≡ out ++ d) × (doubled 39 d ++ 39 ∷ behind ≡ y)
+
+-- what begins with the text so far goes on with it
+pub goes_on_with : (out v behind y : List ℕ) → NoQuote behind → doubled 39 v ++ 39 ∷ behind ≡ doubled 39 out ++ y → Behind out v behind y
+goes_on_with [] v behind y ends e = (v, refl, e)
+goes_on_with (o ∷ out) [] behind y ends e = by (cases_eq o 39)
+  where
+    all : 39 ∷ behind ≡ twice o ++ (doubled 39 out ++ y)
+    all = e ∙ append_assoc (twice o) (doubled 39 out) y
+
+    by : (o ≡ 39) ⊎ (o ≡ 39 → ⊥) → Behind (o ∷ out) [] behind y
+    by (inl is) =
+        let two : 39 ∷ behind ≡ 39 ∷ 39 ∷ (doubled 39 out ++ y) = all ∙ ap (λ (l : List ℕ). l ++ (doubled 39 out ++ y)) (twice_quote o is) in
+        let rest : behind ≡ 39 ∷ (doubled 39 out ++ y) = cc in
+        absurd (subst NoQuote rest ends refl)
+    by (inr other) =
+        let one : 39 ∷ behind ≡ o ∷ (doubled 39 out ++ y) = all ∙ ap (λ (l : List ℕ). l ++ (doubled 39 out ++ y)) (twice_other o other) in
+        let is : o ≡ 39 = cc in
+        absurd (other is)
+goes_on_with (o ∷ out) (x ∷ v) behind y ends e = by (λ rest. goes_on_with out v behind y ends rest) (cases_eq o 39) (cases_eq x 39)
+  where
+    all : twice x ++ (doubled 39 v ++ 39 ∷ behind) ≡ twice o ++ (doubled 39 out ++ y)
+    all = sym (append_assoc (twice x) (doubled 39 v) (39 ∷ behind)) ∙ e ∙ append_assoc (twice o) (doubled 39 out) y
+
+    further : (doubled 39 v ++ 39 ∷ behind ≡ doubled 39 out ++ y → Behind out v behind y) → x ≡ o → doubled 39 v ++ 39 ∷ behind ≡ doubled 39 out ++ y → Behind (o ∷ out) (x ∷ v) behind y
+    further go same rest = let more = go rest in (more.0, (λ i. same i ∷ more.1 i), more.2)
+
+    by : (doubled 39 v ++ 39 ∷ behind ≡ doubled 39 out ++ y → Behind out v behind y) → (o ≡ 39) ⊎ (o ≡ 39 → ⊥) → (x ≡ 39) ⊎ (x ≡ 39 → ⊥) → Behind (o ∷ out) (x ∷ v) behind y
+    by go (inl is) (inl same) =
+        let two : 39 ∷ 39 ∷ (doubled 39 v ++ 39 ∷ behind) ≡ 39 ∷ 39 ∷ (doubled 39 out ++ y) =
+        ap (λ (l : List ℕ). l ++ (doubled 39 v ++ 39 ∷ behind)) (sym (twice_quote x same)) ∙ all ∙ ap (λ (l : List ℕ). l ++ (doubled 39 out ++ y)) (twice_quote o is) in
+        let rest : doubled 39 v ++ 39 ∷ behind ≡ doubled 39 out ++ y = cc in
+        further go (same ∙ sym is) rest
+    by go (inl is) (inr other) =
+        let mixed : x ∷ (doubled 39 v ++ 39 ∷ behind) ≡ 39 ∷ 39 ∷ (doubled 39 out ++ y) =
+        ap (λ (l : List ℕ). l ++ (doubled 39 v ++ 39 ∷ behind)) (sym (twice_other x other)) ∙ all ∙ ap (λ (l : List ℕ). l ++ (doubled 39 out ++ y)) (twice_quote o is) in
+        let bad : x ≡ 39 = cc in
+        absurd (other bad)
+    by go (inr other) (inl same) =
+        let mixed : 39 ∷ 39 ∷ (doubled 39 v ++ 39 ∷ behind) ≡ o ∷ (doubled 39 out ++ y) =
+        ap (λ (l : List ℕ). l ++ (doubled 39 v ++ 39 ∷ behind)) (sym (twice_quote x same)) ∙ all ∙ ap (λ (l : List ℕ). l ++ (doubled 39 out ++ y)) (twice_other o other) in
+        let bad : o ≡ 39 = cc in
+        absurd (other bad)
+    by go (inr o_other) (inr x_other) =
+        let one : x ∷ (doubled 39 v ++ 39 ∷ behind) ≡ o ∷ (doubled 39 out ++ y) =
+        ap (λ (l : List ℕ). l ++ (doubled 39 v ++ 39 ∷ behind)) (sym (twice_other x x_other)) ∙ all ∙ ap (λ (l : List ℕ). l ++ (doubled 39 out ++ y)) (twice_other o o_other) in
+        let same : x ≡ o = cc in
+        let rest : doubled 39 v ++ 39 ∷ behind ≡ doubled 39 out ++ y = cc in
+        further go same rest
+
+-- what a text begins with behind what was read: its quote, or a byte of it
+begins_behind : (P : Type 0) (d behind : List ℕ) (b : ℕ) (o : List ℕ) → doubled 39 d ++ 39 ∷ behind ≡ b ∷ o → (d ≡ [] → 39 ≡ b → behind ≡ o → P) → ((x : List ℕ) → d ≡ b ∷ x → P) → P
+begins_behind P [] behind b o e ends goes = let first : 39 ≡ b = cc in let rest : behind ≡ o = cc in ends refl first rest
+begins_behind P (x ∷ d) behind b o e ends goes = by (cases_eq x 39)
+  where
+    all : twice x ++ (doubled 39 d ++ 39 ∷ behind) ≡ b ∷ o
+    all = sym (append_assoc (twice x) (doubled 39 d) (39 ∷ behind)) ∙ e
+
+    by : (x ≡ 39) ⊎ (x ≡ 39 → ⊥) → P
+    by (inl is) =
+        let two : 39 ∷ 39 ∷ (doubled 39 d ++ 39 ∷ behind) ≡ b ∷ o = ap (λ (l : List ℕ). l ++ (doubled 39 d ++ 39 ∷ behind)) (sym (twice_quote x is)) ∙ all in
+        let first : 39 ≡ b = cc in
+        goes d (ap (λ (k : ℕ). k ∷ d) (is ∙ first))
+    by (inr other) =
+        let one : x ∷ (doubled 39 d ++ 39 ∷ behind) ≡ b ∷ o = ap (λ (l : List ℕ). l ++ (doubled 39 d ++ 39 ∷ behind)) (sym (twice_other x other)) ∙ all in
+        let first : x ≡ b = cc in
+        goes d (ap (λ (k : ℕ). k ∷ d) first)
+
+quoted_behind : (v behind : List ℕ) → quoted v ++ behind ≡ 39 ∷ (doubled 39 v ++ 39 ∷ behind)
+quoted_behind v behind = ap (λ (l : List ℕ). 39 ∷ l) (append_assoc (doubled 39 v) (39 ∷ []) behind)
+
+pub text_free : IsPrefixFree NoQuote IsUtf8 quoted
+text_free v w r s isv isw nr ns e =
+    let inner : doubled 39 v ++ 39 ∷ r ≡ doubled 39 w ++ 39 ∷ s = let h : 39 ∷ (doubled 39 v ++ 39 ∷ r) ≡ 39 ∷ (doubled 39 w ++ 39 ∷ s) = sym (quoted_behind v r) ∙ e ∙ quoted_behind w s in cc in
+    let more = goes_on_with w v r (39 ∷ s) nr inner in
+    by more.0 more.1 more.2
+  where
+    by : (d : List ℕ) → v ≡ w ++ d → doubled 39 d ++ 39 ∷ r ≡ 39 ∷ s → (v ≡ w) × (r ≡ s)
+    by [] is same = let rest : r ≡ s = cc in (is ∙ append-nil w, rest)
+    by (x ∷ d) is same = begins_twice (cases_eq x 39)
+      where
+        all : twice x ++ (doubled 39 d ++ 39 ∷ r) ≡ 39 ∷ s
+        all = sym (append_assoc (twice x) (doubled 39 d) (39 ∷ r)) ∙ same
+
+        begins_twice : (x ≡ 39) ⊎ (x ≡ 39 → ⊥) → (v ≡ w) × (r ≡ s)
+        begins_twice (inl quote) =
+            let two : 39 ∷ 39 ∷ (doubled 39 d ++ 39 ∷ r) ≡ 39 ∷ s = ap (λ (l : List ℕ). l ++ (doubled 39 d ++ 39 ∷ r)) (sym (twice_quote x quote)) ∙ all in
+            let bad : 39 ∷ (doubled 39 d ++ 39 ∷ r) ≡ s = cc in
+            absurd (subst NoQuote (sym bad) ns refl)
+        begins_twice (inr other) =
+            let one : x ∷ (doubled 39 d ++ 39 ∷ r) ≡ 39 ∷ s = ap (λ (l : List ℕ). l ++ (doubled 39 d ++ 39 ∷ r)) (sym (twice_other x other)) ∙ all in
+            let bad : x ≡ 39 = cc in
+            absurd (other bad)
+
+abbrev Stuck : List ℕ → List ℕ → Type 0
+Stuck bytes rest = IsStuck NoQuote IsUtf8 quoted bytes rest
+
+pub no_quote_there : (rest other : List ℕ) → SameFirst rest other → NoQuote rest → NoQuote other
+no_quote_there [] [] same none = tt
+no_quote_there [] (o ∷ other) same none = absurd same
+no_quote_there (r ∷ rest) [] same none = absurd same
+no_quote_there (r ∷ rest) (o ∷ other) same none = subst (λ (b : ℕ). NoQuote (b ∷ other)) same none
+
+pub stuck_without_quote : (bytes : List ℕ) → NoQuote bytes → Stuck bytes bytes
+stuck_without_quote bytes none = record {
+  before = [];
+  splits = refl;
+  value = [];
+  more = quoted [];
+  has = IsUtf8-nil;
+  begins = refl;
+  none = λ v behind other is ends same e. subst NoQuote (sym e) (no_quote_there bytes other same none) refl;
+}
+
+filled : (more low high : ℕ) → low ≤ high → (x : List ℕ) × Follows more low high x
+filled zero low high le = ([], IsUtf8-nil)
+filled (suc more) low high le =
+    let rest = filled more 128 191 (omega arith) in
+    let least : low ≤ low = omega arith in
+    (low ∷ rest.0, (least, le, rest.1))
+
+-- what is expected can come
+some_completes : (e : Expected) → IsOpen e → (x : List ℕ) × Completes e x
+some_completes Any alive = ([], tt)
+some_completes Character alive = ([], IsUtf8-nil)
+some_completes (Following more low high) alive = filled more low high alive.2
+
+-- some text goes on from here
+begun : (out : List ℕ) (e : Expected) → IsOpen e → GoesOn Character out e → (v : List ℕ) × (more : List ℕ) × IsUtf8 v × (quoted v ≡ (39 ∷ doubled 39 out) ++ more)
+begun out e alive goes =
+    let x = some_completes e alive in (
+      out ++ x.0,
+      doubled 39 x.0 ++ 39 ∷ [],
+      (goes x.0).0 x.1,
+      ap (λ (l : List ℕ). 39 ∷ (l ++ 39 ∷ [])) (flat_map-append twice out x.0) ∙ ap (λ (l : List ℕ). 39 ∷ l) (append_assoc (doubled 39 out) (doubled 39 x.0) (39 ∷ [])),
+    )
+
+-- a text that goes on behind what was read
+texts_behind : (out v behind other : List ℕ) → NoQuote behind → quoted v ++ behind ≡ (39 ∷ doubled 39 out) ++ other → Behind out v behind other
+texts_behind out v behind other ends e =
+    let inner : doubled 39 v ++ 39 ∷ behind ≡ doubled 39 out ++ other = let h : 39 ∷ (doubled 39 v ++ 39 ∷ behind) ≡ 39 ∷ (doubled 39 out ++ other) = sym (quoted_behind v behind) ∙ e in cc in
+    goes_on_with out v behind other ends inner
+
+pub stuck_at_end : (out bytes rest : List ℕ) (e : Expected) → IsOpen e → GoesOn Character out e → bytes ≡ (39 ∷ doubled 39 out) ++ rest → rest ≡ [] → Stuck bytes rest
+stuck_at_end out bytes rest e alive goes all nothing =
+    let some = begun out e alive goes in
+    record {
+      before = 39 ∷ doubled 39 out;
+      splits = all;
+      value = some.0;
+      more = some.1;
+      has = some.2;
+      begins = some.3;
+      none = λ v behind other is ends same h.
+          let more = texts_behind out v behind other ends h in
+          nothing_there more.0 behind other (subst (λ (l : List ℕ). SameFirst l other) nothing same) more.2;
+    }
+  where
+    nothing_there : (d behind other : List ℕ) → SameFirst [] other → doubled 39 d ++ 39 ∷ behind ≡ other → ⊥
+    nothing_there d behind (o ∷ other) same h = same
+    nothing_there [] behind [] same h = cc
+    nothing_there (x ∷ d) behind [] same h = by (cases_eq x 39)
+      where
+        all_of : twice x ++ (doubled 39 d ++ 39 ∷ behind) ≡ []
+        all_of = sym (append_assoc (twice x) (doubled 39 d) (39 ∷ behind)) ∙ h
+
+        by : (x ≡ 39) ⊎ (x ≡ 39 → ⊥) → ⊥
+        by (inl is) = let bad : 39 ∷ 39 ∷ (doubled 39 d ++ 39 ∷ behind) ≡ [] = ap (λ (l : List ℕ). l ++ (doubled 39 d ++ 39 ∷ behind)) (sym (twice_quote x is)) ∙ all_of in cc
+        by (inr other) = let bad : x ∷ (doubled 39 d ++ 39 ∷ behind) ≡ [] = ap (λ (l : List ℕ). l ++ (doubled 39 d ++ 39 ∷ behind)) (sym (twice_other x other)) ∙ all_of in cc
+
+-- a byte that may not come
+pub stuck_at_byte : (out bytes rest after : List ℕ) (b : ℕ) (e : Expected) → IsOpen e → GoesOn Character out e → bytes ≡ (39 ∷ doubled 39 out) ++ rest → rest ≡ b ∷ after
+    → IsRefused e b → (b < 128 → Completes e [] → ⊥) → Stuck bytes rest
+stuck_at_byte out bytes rest after b e alive goes all first refused closed =
+    let some = begun out e alive goes in
+    record {
+      before = 39 ∷ doubled 39 out;
+      splits = all;
+      value = some.0;
+      more = some.1;
+      has = some.2;
+      begins = some.3;
+      none = λ v behind other is ends same h.
+          let more = texts_behind out v behind other ends h in
+          let o = there other (subst (λ (l : List ℕ). SameFirst l other) first same) in
+          begins_behind ⊥ more.0 behind b o.0 (more.2 ∙ o.1)
+          (λ nothing quote rest. closed (omega (arith, quote)) ((goes []).1 (subst IsUtf8 (more.1 ∙ ap (λ (l : List ℕ). out ++ l) nothing) is)))
+          (λ x byte. refused x ((goes (b ∷ x)).1 (subst IsUtf8 (more.1 ∙ ap (λ (l : List ℕ). out ++ l) byte) is)));
+    }
+  where
+    there : (other : List ℕ) → SameFirst (b ∷ after) other → (o : List ℕ) × (other ≡ b ∷ o)
+    there [] same = absurd same
+    there (c ∷ o) same = (o, ap (λ (k : ℕ). k ∷ o) (sym same))
+
+-- ---- one byte more, and the end
+
+pub goes_further : (out : List ℕ) (e n : Expected) (b : ℕ) → GoesOn Character out e → IsNext e b n → GoesOn Character (out ++ b ∷ []) n
+goes_further out e n b goes next x =
+    let same : (out ++ b ∷ []) ++ x ≡ out ++ b ∷ x = append_assoc out (b ∷ []) x in (
+      λ h. subst IsUtf8 (sym same) ((goes (b ∷ x)).0 ((next.1 x).0 h)),
+      λ h. (next.1 x).1 ((goes (b ∷ x)).1 (subst IsUtf8 same h)),
+    )
+
+pub written_further : (out bytes rest after left : List ℕ) (b : ℕ) → bytes ≡ (39 ∷ doubled 39 out) ++ rest → rest ≡ b ∷ after
+    → ((b ≡ 39) × (after ≡ 39 ∷ left)) ⊎ ((b ≢ 39) × (after ≡ left)) → bytes ≡ (39 ∷ doubled 39 (out ++ b ∷ [])) ++ left
+written_further out bytes rest after left b all first which = all ∙ ap (λ (l : List ℕ). (39 ∷ doubled 39 out) ++ l) (by which) ∙ more
+  where
+    by : ((b ≡ 39) × (after ≡ 39 ∷ left)) ⊎ ((b ≢ 39) × (after ≡ left)) → rest ≡ twice b ++ left
+    by (inl quote) = first ∙ (λ i. quote.0 i ∷ quote.1 i) ∙ ap (λ (l : List ℕ). l ++ left) (sym (twice_quote b quote.0))
+    by (inr other) = first ∙ ap (λ (l : List ℕ). b ∷ l) other.1 ∙ ap (λ (l : List ℕ). l ++ left) (sym (twice_other b other.0))
+
+    more : (39 ∷ doubled 39 out) ++ (twice b ++ left) ≡ (39 ∷ doubled 39 (out ++ b ∷ [])) ++ left
+    more = ap (λ (l : List ℕ). 39 ∷ l) (sym (append_assoc (doubled 39 out) (twice b) left) ∙ ap (λ (l : List ℕ). l ++ left) (sym (doubled_more out b)))
+
+pub ended_here : (out bytes rest after : List ℕ) (b : ℕ) → bytes ≡ (39 ∷ doubled 39 out) ++ rest → rest ≡ b ∷ after → b ≡ 39 → bytes ≡ quoted out ++ after
+ended_here out bytes rest after b all first quote =
+    all ∙ ap (λ (l : List ℕ). (39 ∷ doubled 39 out) ++ l) (first ∙ ap (λ (k : ℕ). k ∷ after) quote) ∙ sym (quoted_behind out after)
+
+pub text_so_far : (out : List ℕ) (e : Expected) → GoesOn Character out e → Completes e [] → IsUtf8 out
+text_so_far out e goes done = subst IsUtf8 (append-nil out) ((goes []).0 done)
+
+pub nothing_left : (l : List ℕ) → length l ≡ 0 → l ≡ []
+nothing_left [] none = refl
+nothing_left (x ∷ l) none = absurd (omega (arith, none))

@@ -1,0 +1,126 @@
+-- The lines of transcripts, and that they lead to them.
+use Rattle.std.proofs.Common.{◌≡◌, ◌≢◌, ◌∙◌, ap, ℕ, suc, ◌+◌, ◌^◌, ◌<◌, ◌≤◌, Bool, true, false, List, [], ◌∷◌, ◌++◌, Option, Some, None, refl, sym, subst, append_assoc, arith, flat_map, map}
+use Rattle.std.specs.List.{AllByRecursion, slice_index}
+use Rattle.std.specs.List.Sorted.{IsStrictlyIncreasing}
+use Rattle.std.proofs.lemmas.Bool.{lt-ltb}
+use Rattle.std.proofs.lemmas.List.{append-nil}
+use Rattle.hc_reply.specs.declared.reply.Row.{Row}
+use Rattle.hc_reply.specs.declared.reply.Line.{Line}
+use Rattle.hc_reply.specs.declared.reply.Ending.{Ending}
+use Rattle.hc_reply.specs.declared.reply.Reply.{Reply}
+use Rattle.hc_reply.specs.declared.reply.Transcript.{Transcript}
+use Rattle.hc_reply.specs.declared.item.Item.{Item}
+use Rattle.hc_reply.specs.declared.item.Item.TheVariants as item
+use Rattle.hc_reply.specs.declared.progress.Progress.{Progress}
+use Rattle.hc_reply.specs.Reading.{IsRow, IsLast, IsReply, IsTranscript, IsEndingIf, AreTranscripts}
+use Rattle.hc_reply.specs.Progress.{start, reply_of, with_open, replies_of, rows_of, finish, step, is_some, and_some, may_close, is_whole, low_of, next_low, turn_of, if_true, Leads, conns}
+use Rattle.hc_reply.proofs.ReplyLines.{last_stands, last_from, ending_stands, ending_from}
+use Rattle.hc_reply.proofs.Leading.{leads_on}
+
+abbrev ending_lines : Option Ending → List Item
+ending_lines None = []
+ending_lines (Some line) = item.Ending line ∷ []
+
+abbrev reply_lines : Reply → List Item
+reply_lines reply = map item.Row reply.rows ++ item.Last reply.last ∷ ending_lines reply.ending
+
+abbrev transcript_lines : Transcript → List Item
+transcript_lines transcript = item.Conn transcript.conn ∷ flat_map reply_lines transcript.replies
+
+abbrev pub all_lines : List Transcript → List Item
+all_lines transcripts = flat_map transcript_lines transcripts
+
+-- the transcripts before, the open one's number and replies, and rows behind them
+record At (done : List Transcript) (n : ℕ) (replies : List Reply) (rows : List Row) (p : Progress) : Type 0 where
+  before : p.done ≡ done
+  conn : p.conn ≡ Some n
+  closed : replies_of p ≡ replies
+  left : rows_of p ≡ rows
+
+module _ (done : List Transcript) (n : ℕ) where
+  rows_lead : (rows : List Row) (replies : List Reply) (front : List Row) (p : Progress) → At done n replies front p → AllByRecursion IsRow rows
+      → (q : Progress) × Leads p (map item.Row rows) q × At done n replies (front ++ rows) q
+  rows_lead [] replies front p at are = (p, refl, record { before = at.before; conn = at.conn; closed = at.closed; left = at.left ∙ sym (append-nil front) })
+  rows_lead (row ∷ rows) replies front p at are =
+      let next : At done n replies (front ++ row ∷ []) (step p (item.Row row)) =
+      record { before = at.before; conn = at.conn; closed = at.closed; left = ap (λ (l : List Row). l ++ row ∷ []) at.left } in
+      let more = rows_lead rows replies (front ++ row ∷ []) (step p (item.Row row)) next are.1 in
+      (more.0, ((ap is_some at.conn, are.0), more.1), subst (λ (l : List Row). At done n replies l more.0) (append_assoc front (row ∷ []) rows) more.2)
+
+  end_leads : (ending : Option Ending) (replies : List Reply) (rows : List Row) (line : Line) (p : Progress) → At done n replies rows p → IsLast line → IsEndingIf ending
+      → (q : Progress) × Leads p (item.Last line ∷ ending_lines ending) q × At done n (replies ++ reply_of rows line ending ∷ []) [] q
+  end_leads None replies rows line p at is end = (
+    step p (item.Last line),
+    ((last_stands (turn_of p) line ∙ ap is_some at.conn, last_from (low_of p) line is), refl),
+    record { before = at.before; conn = at.conn; closed = λ i. (at.closed i) ++ reply_of (at.left i) line None ∷ []; left = refl },
+  )
+  end_leads (Some ending) replies rows line p at is end =
+      let mid = step p (item.Last line) in (
+        step mid (item.Ending ending),
+        ((last_stands (turn_of p) line ∙ ap is_some at.conn, last_from (low_of p) line is), ((ending_stands (turn_of mid) ending, ending_from (low_of mid) ending end), refl)),
+        record { before = at.before; conn = at.conn; closed = λ i. (at.closed i) ++ reply_of (at.left i) line (Some ending) ∷ []; left = refl },
+      )
+
+  replies_lead : (rs : List Reply) (replies : List Reply) (p : Progress) → At done n replies [] p → AllByRecursion IsReply rs
+      → (q : Progress) × Leads p (flat_map reply_lines rs) q × At done n (replies ++ rs) [] q
+  replies_lead [] replies p at are = (p, refl, record { before = at.before; conn = at.conn; closed = at.closed ∙ sym (append-nil replies); left = at.left })
+  replies_lead (r ∷ rs) replies p at are =
+      let rows = rows_lead r.rows replies [] p at are.0.0 in
+      let end = end_leads r.ending replies r.rows r.last rows.0 rows.2 are.0.1 are.0.2 in
+      let more = replies_lead rs (replies ++ r ∷ []) end.0 end.2 are.1 in (
+        more.0,
+        leads_on p (reply_lines r) (flat_map reply_lines rs) end.0 more.0
+            (leads_on p (map item.Row r.rows) (item.Last r.last ∷ ending_lines r.ending) rows.0 end.0 rows.1 end.1) more.1,
+        subst (λ (l : List Reply). At done n l [] more.0) (append_assoc replies (r ∷ []) rs) more.2,
+      )
+
+-- the numbers rise from the least one on
+abbrev Rises : ℕ → List Transcript → Type 0
+Rises low [] = Unit {0}
+Rises low (t ∷ ts) = (low ≤ t.conn) × Rises (t.conn + 1) ts
+
+rises : (low : ℕ) (t : Transcript) (ts : List Transcript) → low ≤ t.conn → IsStrictlyIncreasing (conns (t ∷ ts)) → Rises low (t ∷ ts)
+rises low t [] le up = (le, tt)
+rises low t (u ∷ ts) le up =
+    let first : t.conn < u.conn = up 0 (omega arith) in (
+      le,
+      rises (t.conn + 1) u ts (omega (arith, first)) (λ k short.
+          let next : suc k + 1 ≡ suc (k + 1) = omega arith in
+          subst (λ (i : ℕ). slice_index (conns (u ∷ ts)) k < slice_index (conns (t ∷ u ∷ ts)) i) next (up (suc k) (omega (arith, short)))),
+    )
+
+some_there : (replies : List Reply) → replies ≢ [] → and_some true replies ≡ true
+some_there [] some = absurd (some refl)
+some_there (r ∷ replies) some = refl
+
+if_both : (a b : Bool) → a ≡ true → b ≡ true → if_true a b ≡ true
+if_both true b h k = k
+if_both false b h k = absurd (let bad = h in cc)
+
+all_lead : (ts : List Transcript) (p : Progress) → is_whole p ≡ true → Rises (low_of p) ts → AllByRecursion IsTranscript ts
+    → (q : Progress) × Leads p (all_lines ts) q × (is_whole q ≡ true) × (finish q ≡ finish p ++ ts)
+all_lead [] p whole up are = (p, refl, whole, sym (append-nil (finish p)))
+all_lead (t ∷ ts) p whole up are =
+    let n = t.conn in
+    let here = step p (item.Conn n) in
+    let room : low_of p < 2 ^ 32 = omega (arith, up.0, are.0.0) in
+    let replies = replies_lead (finish p) n t.replies [] here (record { before = refl; conn = refl; closed = refl; left = refl }) are.0.2 in
+    let q = replies.0 in
+    let at = replies.2 in
+    let closes : is_whole q ≡ true = (λ i. may_close (at.conn i) (at.closed i) (at.left i)) ∙ some_there t.replies are.0.1 in
+    let end : finish q ≡ finish p ++ t ∷ [] = λ i. with_open (at.before i) (at.conn i) (at.closed i) in
+    let low : low_of q ≡ n + 1 = ap next_low at.conn in
+    let more = all_lead ts q closes (subst (λ (l : ℕ). Rises l ts) (sym low) up.1) are.1 in (
+      more.0,
+      ((if_both _ _ (lt-ltb (low_of p) (2 ^ 32) room) whole, (up.0, are.0.0)), leads_on here (flat_map reply_lines t.replies) (all_lines ts) q more.0 replies.1 more.1),
+      more.2,
+      more.3 ∙ ap (λ (l : List Transcript). l ++ ts) end ∙ append_assoc (finish p) (t ∷ []) ts,
+    )
+
+-- the lines of transcripts lead to them
+pub whole_leads : (ts : List Transcript) → AreTranscripts ts → (q : Progress) × Leads start (all_lines ts) q × (is_whole q ≡ true) × (finish q ≡ ts)
+whole_leads ts are = all_lead ts start refl (from ts are.0) are.1
+  where
+    from : (l : List Transcript) → IsStrictlyIncreasing (conns l) → Rises 0 l
+    from [] up = tt
+    from (t ∷ l) up = rises 0 t l (omega arith) up

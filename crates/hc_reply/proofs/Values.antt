@@ -1,0 +1,173 @@
+-- A value, read by the class that its first byte tells.
+use Rattle.std.proofs.Common.{◌≡◌, ◌≢◌, ◌∙◌, ap, ℕ, ◌<◌, ◌≤◌, ◌⊎◌, inl, inr, ℤ, pos, negsuc, List, [], ◌∷◌, ◌++◌, None, refl, sym, subst, arith, w64, FitsSigned, codes}
+use Rattle.std.specs.Str.{IsUtf8}
+use Rattle.std.specs.Fmt.{signed_decimal}
+use Rattle.std.proofs.lemmas.List.{append_cancel_left}
+use Rattle.hc_value.specs.declared.value.Value.{Value}
+use Rattle.hc_value.specs.declared.value.Value.TheVariants.{Null, Int, Text, Blob}
+use Rattle.hc_reply.specs.Output.{quoted, blob_text, value_text}
+use Rattle.hc_reply.specs.Reading.{IsPrintable}
+use Rattle.hc_reply.specs.Blobs.{IsBlob}
+use Rattle.hc_reply.specs.Stops.{NoDigit, NoQuote, EndsValue, EndsBehind, SameFirst, Anything, IsStuck, IsWord, the_word, NotFirst}
+use Rattle.hc_reply.proofs.Texts.{text_free}
+use Rattle.hc_reply.proofs.Blobs.{blob_free}
+use Rattle.hc_reply.proofs.Integers.{decimal_head, head_there, integer_free}
+
+-- which byte a value begins with
+abbrev HeadOf : Value → ℕ → Type 0
+HeadOf Null b = b ≡ 78
+HeadOf (Int n) b = (b ≡ 45) ⊎ ((48 ≤ b) × (b < 58))
+HeadOf (Text text) b = b ≡ 39
+HeadOf (Blob bytes) b = b ≡ 88
+
+integer_head : (z : ℤ) (behind : List ℕ) (b : ℕ) (o : List ℕ) → FitsSigned w64 z → signed_decimal z ++ behind ≡ b ∷ o → (b ≡ 45) ⊎ ((48 ≤ b) × (b < 58))
+integer_head (pos n) behind b o fits e = inr (decimal_head n behind b o (omega (arith, fits)) e)
+integer_head (negsuc n) behind b o fits e = inl (let h : 45 ≡ b = cc in sym h)
+
+head_of : (v : Value) (behind : List ℕ) (b : ℕ) (o : List ℕ) → IsPrintable v → value_text v ++ behind ≡ b ∷ o → HeadOf v b
+head_of Null behind b o fits e = let h : 78 ≡ b = cc in sym h
+head_of (Int n) behind b o fits e = integer_head n behind b o fits.0 e
+head_of (Text text) behind b o fits e = let h : 39 ≡ b = cc in sym h
+head_of (Blob bytes) behind b o fits e = let h : 88 ≡ b = cc in sym h
+
+abbrev Stuck : List ℕ → List ℕ → Type 0
+Stuck bytes rest = IsStuck EndsValue IsPrintable value_text bytes rest
+
+pub null_stuck : (bytes rest t : List ℕ) → bytes ≡ 78 ∷ t → IsStuck Anything IsWord (the_word (codes "NULL")) bytes rest → Stuck bytes rest
+null_stuck bytes rest t first s = record {
+  before = s.before;
+  splits = s.splits;
+  value = Null;
+  more = s.more;
+  has = (tt, tt);
+  begins = s.begins;
+  none = λ v behind other fits ends same e.
+      let o = head_there bytes s.before rest other t 78 s.splits first same in
+      only v (head_of v behind 78 o.0 fits (e ∙ o.1)) behind other same e;
+}
+  where
+    only : (v : Value) → HeadOf v 78 → (behind other : List ℕ) → SameFirst rest other → value_text v ++ behind ≡ s.before ++ other → ⊥
+    only Null h behind other same e = s.none tt behind other tt tt same e
+    only (Int n) (inl h) behind other same e = omega (arith, h)
+    only (Int n) (inr h) behind other same e = omega (arith, h.1)
+    only (Text text) h behind other same e = omega (arith, h)
+    only (Blob bytes) h behind other same e = omega (arith, h)
+
+pub text_stuck : (bytes rest t : List ℕ) → bytes ≡ 39 ∷ t → IsStuck NoQuote IsUtf8 quoted bytes rest → Stuck bytes rest
+text_stuck bytes rest t first s = record {
+  before = s.before;
+  splits = s.splits;
+  value = Text s.value;
+  more = s.more;
+  has = (s.has, tt);
+  begins = s.begins;
+  none = λ v behind other fits ends same e.
+      let o = head_there bytes s.before rest other t 39 s.splits first same in
+      only v fits (head_of v behind 39 o.0 fits (e ∙ o.1)) behind other ends same e;
+}
+  where
+    only : (v : Value) → IsPrintable v → HeadOf v 39 → (behind other : List ℕ) → EndsValue behind → SameFirst rest other → value_text v ++ behind ≡ s.before ++ other → ⊥
+    only Null fits h behind other ends same e = omega (arith, h)
+    only (Int n) fits (inl h) behind other ends same e = omega (arith, h)
+    only (Int n) fits (inr h) behind other ends same e = omega (arith, h.0)
+    only (Text text) fits h behind other ends same e = s.none text behind other fits.0 ends.1 same e
+    only (Blob bytes) fits h behind other ends same e = omega (arith, h)
+
+pub blob_stuck : (bytes rest t : List ℕ) → bytes ≡ 88 ∷ t → IsStuck Anything (IsBlob None) blob_text bytes rest → Stuck bytes rest
+blob_stuck bytes rest t first s = record {
+  before = s.before;
+  splits = s.splits;
+  value = Blob s.value;
+  more = s.more;
+  has = (tt, s.has.0);
+  begins = s.begins;
+  none = λ v behind other fits ends same e.
+      let o = head_there bytes s.before rest other t 88 s.splits first same in
+      only v fits (head_of v behind 88 o.0 fits (e ∙ o.1)) behind other same e;
+}
+  where
+    only : (v : Value) → IsPrintable v → HeadOf v 88 → (behind other : List ℕ) → SameFirst rest other → value_text v ++ behind ≡ s.before ++ other → ⊥
+    only Null fits h behind other same e = omega (arith, h)
+    only (Int n) fits (inl h) behind other same e = omega (arith, h)
+    only (Int n) fits (inr h) behind other same e = omega (arith, h.1)
+    only (Text text) fits h behind other same e = omega (arith, h)
+    only (Blob bytes) fits h behind other same e = s.none bytes behind other (fits.1, tt) tt same e
+
+-- no value but an integer begins so
+abbrev pub MayBeInteger : List ℕ → Type 0
+MayBeInteger [] = Unit {0}
+MayBeInteger (b ∷ rest) = (b ≢ 78) × (b ≢ 39) × (b ≢ 88)
+
+pub may_be_integer : (bytes : List ℕ) → NotFirst 78 bytes → NotFirst 39 bytes → NotFirst 88 bytes → MayBeInteger bytes
+may_be_integer [] n q x = tt
+may_be_integer (b ∷ rest) n q x = (n, q, x)
+
+pub integer_stuck : (bytes rest : List ℕ) → MayBeInteger bytes → IsStuck NoDigit (FitsSigned w64) signed_decimal bytes rest → Stuck bytes rest
+integer_stuck bytes rest may s = record {
+  before = s.before;
+  splits = s.splits;
+  value = Int s.value;
+  more = s.more;
+  has = (s.has, tt);
+  begins = s.begins;
+  none = λ v behind other fits ends same e. only v fits behind other ends same e;
+}
+  where
+    may_there : (before other : List ℕ) → bytes ≡ before ++ rest → SameFirst rest other → MayBeInteger (before ++ other)
+    may_there (x ∷ before) other splits same = subst MayBeInteger splits may
+    may_there [] other splits same = at rest other (subst MayBeInteger splits may) same
+      where
+        at : (r o : List ℕ) → MayBeInteger r → SameFirst r o → MayBeInteger o
+        at [] [] m h = tt
+        at [] (b ∷ o) m h = absurd h
+        at (a ∷ r) [] m h = absurd h
+        at (a ∷ r) (b ∷ o) m h = subst (λ (k : ℕ). (k ≢ 78) × (k ≢ 39) × (k ≢ 88)) h m
+
+    only : (v : Value) → IsPrintable v → (behind other : List ℕ) → EndsValue behind → SameFirst rest other → value_text v ++ behind ≡ s.before ++ other → ⊥
+    only Null fits behind other ends same e = (subst MayBeInteger (sym e) (may_there s.before other s.splits same)).0 refl
+    only (Int n) fits behind other ends same e = s.none n behind other fits.0 ends.0 same e
+    only (Text text) fits behind other ends same e = (subst MayBeInteger (sym e) (may_there s.before other s.splits same)).1 refl
+    only (Blob bytes) fits behind other ends same e = (subst MayBeInteger (sym e) (may_there s.before other s.splits same)).2 refl
+
+-- two values at the front of the same bytes are the same
+pub value_free : (v w : Value) (r s : List ℕ) → IsPrintable v → IsPrintable w → EndsBehind v r → EndsBehind w s → value_text v ++ r ≡ value_text w ++ s → (v ≡ w) × (r ≡ s)
+value_free Null Null r s p q er es e = (refl, append_cancel_left (codes "NULL") r s e)
+value_free Null (Int n) r s p q er es e = absurd (by (integer_head n s 78 (85 ∷ 76 ∷ 76 ∷ r) q.0 (sym e)))
+  where
+    by : (◌≡◌ {A = ℕ} 78 45) ⊎ ((48 ≤ 78) × (78 < 58)) → ⊥
+    by (inl h) = omega (arith, h)
+    by (inr h) = omega (arith, h.1)
+value_free Null (Text text) r s p q er es e = absurd (let h : ◌≡◌ {A = ℕ} 78 39 = cc in omega (arith, h))
+value_free Null (Blob bytes) r s p q er es e = absurd (let h : ◌≡◌ {A = ℕ} 78 88 = cc in omega (arith, h))
+value_free (Int n) Null r s p q er es e = absurd (by (integer_head n r 78 (85 ∷ 76 ∷ 76 ∷ s) p.0 e))
+  where
+    by : (◌≡◌ {A = ℕ} 78 45) ⊎ ((48 ≤ 78) × (78 < 58)) → ⊥
+    by (inl h) = omega (arith, h)
+    by (inr h) = omega (arith, h.1)
+value_free (Int m) (Int n) r s p q er es e = let both = integer_free m n r s p.0 q.0 er es e in (ap Int both.0, both.1)
+value_free (Int n) (Text text) r s p q er es e = absurd (by (integer_head n r 39 _ p.0 e))
+  where
+    by : (◌≡◌ {A = ℕ} 39 45) ⊎ ((48 ≤ 39) × (39 < 58)) → ⊥
+    by (inl h) = omega (arith, h)
+    by (inr h) = omega (arith, h.0)
+value_free (Int n) (Blob bytes) r s p q er es e = absurd (by (integer_head n r 88 _ p.0 e))
+  where
+    by : (◌≡◌ {A = ℕ} 88 45) ⊎ ((48 ≤ 88) × (88 < 58)) → ⊥
+    by (inl h) = omega (arith, h)
+    by (inr h) = omega (arith, h.1)
+value_free (Text text) Null r s p q er es e = absurd (let h : ◌≡◌ {A = ℕ} 39 78 = cc in omega (arith, h))
+value_free (Text text) (Int n) r s p q er es e = absurd (by (integer_head n s 39 _ q.0 (sym e)))
+  where
+    by : (◌≡◌ {A = ℕ} 39 45) ⊎ ((48 ≤ 39) × (39 < 58)) → ⊥
+    by (inl h) = omega (arith, h)
+    by (inr h) = omega (arith, h.0)
+value_free (Text a) (Text b) r s p q er es e = let both = text_free a b r s p.0 q.0 er es e in (ap Text both.0, both.1)
+value_free (Text text) (Blob bytes) r s p q er es e = absurd (let h : ◌≡◌ {A = ℕ} 39 88 = cc in omega (arith, h))
+value_free (Blob bytes) Null r s p q er es e = absurd (let h : ◌≡◌ {A = ℕ} 88 78 = cc in omega (arith, h))
+value_free (Blob bytes) (Int n) r s p q er es e = absurd (by (integer_head n s 88 _ q.0 (sym e)))
+  where
+    by : (◌≡◌ {A = ℕ} 88 45) ⊎ ((48 ≤ 88) × (88 < 58)) → ⊥
+    by (inl h) = omega (arith, h)
+    by (inr h) = omega (arith, h.1)
+value_free (Blob bytes) (Text text) r s p q er es e = absurd (let h : ◌≡◌ {A = ℕ} 88 39 = cc in omega (arith, h))
+value_free (Blob a) (Blob b) r s p q er es e = let both = blob_free None a b r s (p.1, tt) (q.1, tt) tt tt e in (ap Blob both.0, both.1)

@@ -1,7 +1,0 @@
--- The bytes so far are written, each as its two digits.
-use Rattle.std.proofs.Common.{◌≡◌, ◌++◌, take, flat_map, codes}
-use Rattle.hc_reply.specs.Output.{byte_digits}
-use Rattle.hc_reply.proofs.printer.print_blob.Given as goal
-
-abbrev pub invariant-loop-b : goal.invariant-loop-b
-invariant-loop-b l = l.out.items ≡ (l.fn.out.items ++ codes "X'") ++ flat_map byte_digits (take l.b-index l.b-items)

@@ -1,7 +1,0 @@
--- The values so far are written, each with its bar.
-use Rattle.std.proofs.Common.{◌≡◌, ◌++◌, take, flat_map}
-use Rattle.hc_reply.proofs.Joined.{barred}
-use Rattle.hc_reply.proofs.printer.print_values.Given as goal
-
-abbrev pub invariant-loop-value : goal.invariant-loop-value
-invariant-loop-value l = l.out.items ≡ l.initial.out.items ++ flat_map barred (take l.value-index l.others)
