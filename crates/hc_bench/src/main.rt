@@ -1,5 +1,5 @@
 //! Times the read log: 100,000 ranges added in ascending order, 10,000 added in scattered order, and a
-//! look-up of every key in each log. The counts go to standard output, the times to standard error.
+//! look-up of 200,000 keys in each log. The counts go to standard output, the times to standard error.
 #![tactic(auto)]
 
 mod workload;
@@ -30,7 +30,7 @@ fn main(rt: HostRuntime) -> io::Result<()> {
     look_up(&rt, &log)
 }
 
-// Looks up two keys for each range: one that it holds, and one behind it.
+// Looks up the same keys in each log: of the ascending ranges each holds one, and the next is behind it.
 fn look_up(rt: &HostRuntime, log: &ReadLog) -> io::Result<()> {
     let start = Instant::now(rt)?;
     let covered = count_covered(log);

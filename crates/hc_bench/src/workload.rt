@@ -40,7 +40,7 @@ fn next_place(place: u32) -> u32
     (place % SCATTERED * 4821 + 7) % SCATTERED
 }
 
-// How many of the numbers below twice the number of ranges are covered.
+// How many of the numbers below 200,000 are covered.
 pub fn count_covered(log: &ReadLog) -> usize {
     let mut covered: usize = 0;
     for number in 0..2 * ASCENDING {
