@@ -25,3 +25,4 @@ pub mod Upheld
 pub mod Won
 pub mod Asked
 pub mod FirstVersion
+pub mod WorkedRuns

@@ -8,3 +8,4 @@ pub mod Running
 pub mod Sound
 pub mod Kept
 pub mod Laws
+pub mod Examples

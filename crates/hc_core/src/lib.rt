@@ -15,6 +15,7 @@ mod copying;
 mod diary;
 mod enabled;
 mod event;
+pub mod examples;
 pub mod laws;
 mod log;
 mod machine;
