@@ -26,3 +26,7 @@ pub mod Won
 pub mod Asked
 pub mod FirstVersion
 pub mod WorkedRuns
+pub mod Known
+pub mod Included
+pub mod Answered
+pub mod Played

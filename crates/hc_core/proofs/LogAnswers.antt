@@ -60,7 +60,7 @@ last_of_front commits upto place key last =
 
 module _ {size : ℕ} {log : ℕ → ℕ} {of : ℕ → List Txn} (s : AreSound size log of) where
   -- a transaction that has something standing is decided, or it is open and undecided
-  writer_placed : (key : List ℕ) → ((j : ℕ) → WhenOpen (of j) (λ t. (t.place ≡ 0) × Stands t key) → ⊥)
+  pub writer_placed : (key : List ℕ) → ((j : ℕ) → WhenOpen (of j) (λ t. (t.place ≡ 0) × Stands t key) → ⊥)
       → (j : ℕ) (u : Txn) → Among u (of j) → Stands u key → u.place ≢ 0
   writer_placed key none_open j u there stands undecided =
       ⊎_elim

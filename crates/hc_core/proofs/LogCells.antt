@@ -117,48 +117,60 @@ cells_step range cells [] k within = absurd (omega arith)
 cells_step range cells (commit ∷ commits) zero within = refl
 cells_step range cells (commit ∷ commits) (suc k) within = cells_step range (cells_with range cells commit.writes.items) commits k (omega arith)
 
+-- the cells after one more commit, which puts each of the writes and no others
+pub cells_next : (of : ℕ → List Txn) (part : Range) (k : ℕ) (cells : List Cell) (ws : List Write) → HasOneEach ws
+    → ((key : List ℕ) (rec : Option (List ℕ)) → PutAt of (k + 1) key rec ↔ Among (record { key = key; rec = rec }) ws)
+    → AreCellsAfter of k part cells → AreCellsAfter of (k + 1) part (cells_with part cells ws)
+cells_next of part k cells ws one puts was = record {
+  ascending = with_ascending part cells ws was.ascending;
+  exact = λ key rec.
+      let e = with_exact part cells ws was.ascending one key rec in (
+        λ there. ⊎_elim
+            (λ here. (in_range part key here.0, (k + 1, omega arith, (puts key (Some rec)).1 here.1, λ d other above upto put. omega (arith, above, upto))))
+            (λ other. let p = (was.exact key rec).0 other.1 in (
+              p.0,
+              (
+                p.1.0,
+                omega (arith, p.1.1),
+                p.1.2,
+                λ d o above upto put. ⊎_elim
+                    (λ (last : d ≡ k + 1). other.0 (in_test part key p.0) (o, (puts key o).0 (subst (λ n. PutAt of n key o) last put)))
+                    (λ differ. p.1.3 d o above (omega (arith, upto, differ)) put)
+                    (cases_eq d (k + 1)),
+              ),
+            ))
+            (e.0 there),
+        λ p. e.1 (⊎_elim
+            (λ (last : p.1.0 ≡ k + 1). inl (in_test part key p.0, (puts key (Some rec)).0 (subst (λ n. PutAt of n key (Some rec)) last p.1.2)))
+            (λ differ. inr (
+              (λ _ held. p.1.3 (k + 1) held.0 (omega (arith, p.1.1, differ)) (omega arith) ((puts key held.0).1 held.1)),
+              (was.exact key rec).1 (p.0, (p.1.0, omega (arith, p.1.1, differ), p.1.2, λ d o above upto put. p.1.3 d o above (omega (arith, upto)) put)),
+            ))
+            (cases_eq p.1.0 (k + 1))),
+      );
+}
+
+-- before all commits there are none
+pub cells_first : (of : ℕ → List Txn) (part : Range) → AreCellsAfter of 0 part []
+cells_first of part = record { ascending = tt; exact = λ key rec. (λ there. absurd there, λ p. absurd (p.1.2.4 (omega (arith, p.1.1)))) }
+
 module _ {size : ℕ} {log : ℕ → ℕ} {of : ℕ → List Txn} (s : AreSound size log of) (commits : List Commit) (are : AreCommits of 1 commits) (long : length commits ≡ size) where
   one_each : (k : ℕ) → k < length commits → HasOneEach (writes_at commits k)
   one_each k within key a b a_there b_there =
       let w = writer_at of commits 1 k are within in
       once_one w.1.standing (s.each w.0 w.1 w.2).once key a b ((w.4 (record { key = key; rec = a })).0 a_there) ((w.4 (record { key = key; rec = b })).0 b_there)
 
-  cells_next : (part : Range) (k : ℕ) (cells : List Cell) → k < length commits → AreCellsAfter of k part cells → AreCellsAfter of (k + 1) part (cells_with part cells (writes_at commits k))
-  cells_next part k cells within was = record {
-    ascending = with_ascending part cells (writes_at commits k) was.ascending;
-    exact = λ key rec.
-        let e = with_exact part cells (writes_at commits k) was.ascending (one_each k within) key rec in (
-          λ there. ⊎_elim
-              (λ here. (in_range part key here.0, (k + 1, omega arith, (put_at_place s commits are long k key (Some rec)).1 (within, here.1), λ d other above upto put. omega (arith, above, upto))))
-              (λ other. let p = (was.exact key rec).0 other.1 in (
-                p.0,
-                (
-                  p.1.0,
-                  omega (arith, p.1.1),
-                  p.1.2,
-                  λ d o above upto put. ⊎_elim
-                      (λ (last : d ≡ k + 1). other.0 (in_test part key p.0) (o, ((put_at_place s commits are long k key o).0 (subst (λ n. PutAt of n key o) last put)).1))
-                      (λ differ. p.1.3 d o above (omega (arith, upto, differ)) put)
-                      (cases_eq d (k + 1)),
-                ),
-              ))
-              (e.0 there),
-          λ p. e.1 (⊎_elim
-              (λ (last : p.1.0 ≡ k + 1). inl (in_test part key p.0, ((put_at_place s commits are long k key (Some rec)).0 (subst (λ n. PutAt of n key (Some rec)) last p.1.2)).1))
-              (λ differ. inr (
-                (λ _ held. p.1.3 (k + 1) held.0 (omega (arith, p.1.1, differ)) (omega arith) ((put_at_place s commits are long k key held.0).1 (within, held.1))),
-                (was.exact key rec).1 (p.0, (p.1.0, omega (arith, p.1.1, differ), p.1.2, λ d o above upto put. p.1.3 d o above (omega (arith, upto)) put)),
-              ))
-              (cases_eq p.1.0 (k + 1))),
-        );
-  }
+  entry_puts : (k : ℕ) → k < length commits → (key : List ℕ) (rec : Option (List ℕ))
+      → PutAt of (k + 1) key rec ↔ Among (record { key = key; rec = rec }) (writes_at commits k)
+  entry_puts k within key rec =
+      let e = put_at_place s commits are long k key rec in (λ put. (e.0 put).1, λ there. e.1 (within, there))
 
   -- the cells of a range after the first k entries are those after k commits
   pub cells_are : (part : Range) (k : ℕ) → k ≤ length commits → AreCellsAfter of k part (cells_of part [] (take k commits))
-  cells_are part zero within = record { ascending = tt; exact = λ key rec. (λ there. absurd there, λ p. absurd (p.1.2.4 (omega (arith, p.1.1)))) }
+  cells_are part zero within = cells_first of part
   cells_are part (suc k) within =
       let here : k < length commits = omega arith in
       let next : k + 1 ≡ suc k = omega arith in
       subst (λ n. AreCellsAfter of n part (cells_of part [] (take (suc k) commits))) next
       (subst (AreCellsAfter of (k + 1) part) (sym (cells_step part [] commits k here))
-      (cells_next part k (cells_of part [] (take k commits)) here (cells_are part k (omega arith))))
+      (cells_next of part k (cells_of part [] (take k commits)) (writes_at commits k) (one_each k here) (entry_puts k here) (cells_are part k (omega arith))))

@@ -78,7 +78,7 @@ module _ {size : ℕ} {log : ℕ → ℕ} {of : ℕ → List Txn} (s : AreSound 
           is_newest u u_there u_open u_stands ∙ sym (is_newest v v_there v_open v_stands)
 
   -- the first version of a key is determined
-  first_one : (key : List ℕ) (j k : ℕ) (u v : Txn) → IsFirstVersion of key j u → IsFirstVersion of key k v → (j ≡ k) × (u ≡ v)
+  pub first_one : (key : List ℕ) (j k : ℕ) (u v : Txn) → IsFirstVersion of key j u → IsFirstVersion of key k v → (j ≡ k) × (u ≡ v)
   first_one key j k u v a b =
       ⊎_elim
       (λ (u_open : u.place ≡ 0). ⊎_elim

@@ -1,50 +1,22 @@
 -- The runs that were worked out by hand.
-use Rattle.std.proofs.Common.{◌≡◌, ◌≢◌, ◌∙◌, ◌⊎◌, inl, inr, ⊎_elim, refl, sym, ap₂, subst, ℕ, zero, suc, ◌+◌, ◌<◌, ◌≤◌, false, Some, List, [], ◌∷◌, take, get_or, arith, lit<}
+use Rattle.std.proofs.Common.{◌≡◌, ◌≢◌, ◌∙◌, ◌⊎◌, inl, inr, ⊎_elim, refl, sym, subst, ℕ, zero, suc, ◌+◌, ◌<◌, ◌≤◌, false, Some, List, [], ◌∷◌, take, get_or, arith, lit<}
 use Rattle.std.proofs.lemmas.Bool.{true≢false}
 use Rattle.hc_range.specs.declared.range.Range.{Range}
 use Rattle.hc_range.specs.Order.{is_below}
 use Rattle.hc_range.specs.Ranges.{InRange, Includes}
 use Rattle.hc_core.specs.Lookup.{Among}
 use Rattle.hc_core.specs.Account.{Txn, PartRead, HoldsKey, Stands, begun_at, part_of, txns}
-use Rattle.hc_core.specs.Examples.{IsTheRun, events_of, key_a, key_b, key_c, key_p, one_commit, under_a_newer_one, write_skew}
-use Rattle.hc_core.specs.Machine.{Answers, IsFree, Machine, Runs, after, start, txns_of}
+use Rattle.hc_core.specs.Laws.{IsTheRun}
+use Rattle.hc_core.specs.Examples.{key_a, key_b, key_c, key_p, one_commit, under_a_newer_one, write_skew}
+use Rattle.hc_core.specs.Machine.{IsFree, Machine, Runs, after, start, txns_of}
 use Rattle.hc_core.specs.Running.{holds_key}
-use Rattle.hc_core.specs.Sound.{IsSound}
-use Rattle.hc_core.specs.Versions.{AreCellsAfter, IsFound}
+use Rattle.hc_core.specs.Versions.{IsFound}
 use Rattle.hc_core.specs.declared.account.Entry.{Entry}
 use Rattle.hc_core.specs.declared.cells.Write.{Write}
 use Rattle.hc_core.proofs.LogAnswers.{nothing_between}
 use Rattle.hc_core.proofs.LogEntries.{holds_from}
-use Rattle.hc_core.proofs.OneAnswer.{answers_one}
-use Rattle.hc_core.proofs.SoundRuns.{sound_with, start_sound}
-
--- a sound machine answers events in one way
-runs_one : (m last other_last : Machine) (steps others : List Entry) → IsSound m → Runs m steps last → Runs m others other_last
-    → events_of others ≡ events_of steps → others ≡ steps
-runs_one m last other_last [] [] s runs other_runs same = refl
-runs_one m last other_last [] (other ∷ others) s runs other_runs same = absurd (cc same)
-runs_one m last other_last (step ∷ steps) [] s runs other_runs same = absurd (cc same)
-runs_one m last other_last (step ∷ steps) (other ∷ others) s runs other_runs same =
-    let event : other.event ≡ step.event = cc in
-    let rest : events_of others ≡ events_of steps = cc in
-    let is : other ≡ step = entry_one m step other s event runs.0 other_runs.0 in
-    ap₂ (λ (first : Entry) (behind : List Entry). first ∷ behind) is
-    (runs_one (after m step.event step.outcome) last other_last steps others (sound_with m step.event step.outcome s runs.0) runs.1
-    (subst (λ (e : Entry). Runs (after m e.event e.outcome) others other_last) is other_runs.1) rest)
-  where
-    entry_one : (m : Machine) (step other : Entry) → IsSound m → other.event ≡ step.event → Answers m step.event step.outcome
-        → Answers m other.event other.outcome → other ≡ step
-    entry_one m step other s event answers other_answers =
-        let outcome : other.outcome ≡ step.outcome =
-        answers_one m step.event other.outcome step.outcome s (subst (λ e. Answers m e other.outcome) event other_answers) answers in
-        λ d. record { event = event d; outcome = outcome d }
-
--- a run of a new machine is the only one with its events
-the_run : (conns : ℕ) (steps : List Entry) → (m : Machine) × Runs (start conns) steps m → IsTheRun conns steps
-the_run conns steps run = record {
-  runs = run;
-  only = λ others m other_runs same. runs_one (start conns) run.0 m steps others (start_sound conns) run.1 other_runs same;
-}
+use Rattle.hc_core.proofs.LogCells.{cells_first}
+use Rattle.hc_core.proofs.Played.{the_run}
 
 -- the machine after steps
 abbrev after_all : Machine → List Entry → Machine
@@ -83,13 +55,6 @@ includes_by parts reads all = each_in (λ (read : PartRead). Includes parts read
 -- a key that is not among writes
 not_there : (key : List ℕ) (writes : List Write) → holds_key key writes ≡ false → HoldsKey writes key → ⊥
 not_there key writes none held = true≢false (sym (holds_from key writes held) ∙ none)
-
--- before all commits nothing is read
-nothing_read : (of : ℕ → List Txn) (part : Range) → AreCellsAfter of 0 part []
-nothing_read of part = record {
-  ascending = tt;
-  exact = λ key rec. (λ there. absurd there, λ has. absurd (let after = has.1 in after.2.4 (omega (arith, after.1))));
-}
 
 -- the parts from one key up to the next, and what a read of them found
 abbrev part_a : Range
@@ -165,9 +130,9 @@ write_skew_runs = (
   (
     inl ((omega arith, tt), refl),
     (
-      inl ((refl, refl), (refl, ([], nothing_read (txns_of (at 2 write_skew 2)) part_b, refl))),
+      inl ((refl, refl), (refl, ([], cells_first (txns_of (at 2 write_skew 2)) part_b, refl))),
       (
-        inl ((refl, refl), (refl, ([], nothing_read (txns_of (at 2 write_skew 3)) part_a, refl))),
+        inl ((refl, refl), (refl, ([], cells_first (txns_of (at 2 write_skew 3)) part_a, refl))),
         (
           inl ((refl, (refl, omega arith, ords_below (at 2 write_skew 4) 0 (omega arith, tt), lit< tt)), refl),
           (
@@ -252,7 +217,7 @@ under_a_newer_one_runs : Runs (start 3) under_a_newer_one (at 3 under_a_newer_on
 under_a_newer_one_runs = (
   inl ((omega arith, tt), refl),
   (
-    inl ((refl, refl), (refl, ([], nothing_read (txns_of (at 3 under_a_newer_one 1)) part_a, refl))),
+    inl ((refl, refl), (refl, ([], cells_first (txns_of (at 3 under_a_newer_one 1)) part_a, refl))),
     (
       inl ((omega arith, tt), refl),
       (

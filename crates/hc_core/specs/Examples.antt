@@ -1,19 +1,9 @@
 -- Runs of the machine's table, worked out by hand: the definitions at given events, with no program between.
-use Rattle.std.specs.Prelude.{◌≡◌, ℕ, Some, List, [], ◌∷◌, ◌++◌, map}
+use Rattle.std.specs.Prelude.{ℕ, Some, List, [], ◌∷◌, ◌++◌}
 use Rattle.hc_core.specs.Diary.{entry_of}
-use Rattle.hc_core.specs.Machine.{Machine, start, Runs}
 use Rattle.hc_core.specs.declared.account.Entry.{Entry}
-use Rattle.hc_core.specs.declared.event.Event.{Event}
 use Rattle.hc_core.specs.declared.event.Event.TheVariants.{Begin, Draw, Read, Put, Propose, Check, Decide, Unput, End}
 use Rattle.hc_core.specs.declared.outcome.Outcome.TheVariants.{Done, Began, Drew, Cells, Met, Proposed, Decided, NotNow}
-
-abbrev pub events_of : List Entry → List Event
-events_of steps = map (λ step. step.event) steps
-
--- in a new machine the events of the steps are answered as the steps say, and cannot be answered otherwise
-pub record IsTheRun (conns : ℕ) (steps : List Entry) : Type 0 where
-  pub runs : (m : Machine) × Runs (start conns) steps m
-  pub only : (others : List Entry) (m : Machine) → Runs (start conns) others m → events_of others ≡ events_of steps → others ≡ steps
 
 -- keys of one byte
 abbrev pub key_a : List ℕ

@@ -1,6 +1,6 @@
 -- What holds of the machine's table, and so after any run: from a new machine for any number of connections,
 -- over any events in any order.
-use Rattle.std.specs.Prelude.{◌≡◌, ◌≢◌, ℕ, List, ◌∷◌, ◌⊎◌, ◌↔◌}
+use Rattle.std.specs.Prelude.{◌≡◌, ◌≢◌, ℕ, List, ◌∷◌, map, ◌⊎◌, ◌↔◌}
 use Rattle.hc_core.specs.Lookup.{Among}
 use Rattle.hc_core.specs.Account.{Txn, PartRead, Refusal, Stands, HasRead}
 use Rattle.hc_core.specs.Versions.{AreCellsAfter, AreVersions, IsFirstVersion}
@@ -23,6 +23,23 @@ EachEventKeepsSoundness = (m : Machine) (event : Event) (outcome : Outcome) → 
 abbrev pub AnswersAreOne : Type 0
 AnswersAreOne = (m : Machine) (event : Event) (one other : Outcome) → IsSound m → Answers m event one → Answers m event other
     → one ≡ other
+
+-- and it has one
+abbrev pub AnEventHasAnAnswer : Type 0
+AnEventHasAnAnswer = (m : Machine) (event : Event) → IsSound m → (outcome : Outcome) × Answers m event outcome
+
+-- the events of the steps of a run
+abbrev pub events_of : List Entry → List Event
+events_of steps = map (λ step. step.event) steps
+
+-- in a new machine the events of the steps are answered as the steps say, and cannot be answered otherwise
+pub record IsTheRun (conns : ℕ) (steps : List Entry) : Type 0 where
+  pub runs : (m : Machine) × Runs (start conns) steps m
+  pub only : (others : List Entry) (m : Machine) → Runs (start conns) others m → events_of others ≡ events_of steps → others ≡ steps
+
+-- each list of events, of any connections in any order, has a run from a new machine, and one alone
+abbrev pub EachListOfEventsHasOneRun : Type 0
+EachListOfEventsHasOneRun = (conns : ℕ) (events : List Event) → (steps : List Entry) × (events_of steps ≡ events) × IsTheRun conns steps
 
 -- a fact holds after every run
 abbrev pub AfterEveryRun : (Machine → Type 0) → Type 0

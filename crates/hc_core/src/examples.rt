@@ -1,6 +1,7 @@
 // Runs of the machine's table that were worked out by hand, as facts of the definitions: they speak of no program.
 // Each is the contract of a function that does nothing.
-ghost use Rattle.hc_core.specs.Examples.{IsTheRun, one_commit, under_a_newer_one, write_skew};
+ghost use Rattle.hc_core.specs.Examples.{one_commit, under_a_newer_one, write_skew};
+ghost use Rattle.hc_core.specs.Laws.{IsTheRun};
 
 /// One transaction puts a key and commits; a put before it begins is not enabled.
 pub fn one_transaction_commits()

@@ -1,7 +1,7 @@
 // What follows from the table of the machine alone. Each law is the contract of a function that does nothing.
 // The lemmas in proofs/Kept say the same event by event, of any log and any transactions by connection, and take
 // the facts of an event in place of this machine's answer: they are what another machine can cite.
-ghost use Rattle.hc_core.specs.Laws.{AfterEveryRun, AnswersAreOne, EachEventKeepsSoundness, FirstCommitterWins, NewIsSound, ReadsAreSnapshots, RefusalsNameWriters, VersionsBeginWithTheFirst};
+ghost use Rattle.hc_core.specs.Laws.{AfterEveryRun, AnEventHasAnAnswer, AnswersAreOne, EachEventKeepsSoundness, EachListOfEventsHasOneRun, FirstCommitterWins, NewIsSound, ReadsAreSnapshots, RefusalsNameWriters, VersionsBeginWithTheFirst};
 ghost use Rattle.hc_core.specs.Sound.{IsSound};
 
 /// A new machine is sound, for any number of connections.
@@ -17,6 +17,17 @@ pub fn each_event_keeps_soundness()
 /// The table leaves no choice: a sound machine has one answer at most to an event.
 pub fn an_event_has_one_answer()
     ensures { AnswersAreOne }
+{}
+
+/// Nor does it leave an event without one: whatever comes to a sound machine, the table has an answer to it.
+pub fn an_event_has_an_answer()
+    ensures { AnEventHasAnAnswer }
+{}
+
+/// So each list of events, of any connections in any order, has one run from a new machine: what is said of every
+/// run is said of every list of events.
+pub fn each_list_of_events_has_one_run()
+    ensures { EachListOfEventsHasOneRun }
 {}
 
 /// Whatever the events are, of whichever connections and in whatever order they come, the machine after
