@@ -1,3 +1,4 @@
+pub mod Overlap
 pub mod ByteOrder
 pub mod Ends
 pub mod Normal

@@ -7,6 +7,7 @@
 #![tactic(auto)]
 
 mod bytes;
+pub mod examples;
 mod key;
 mod laws;
 mod log;
