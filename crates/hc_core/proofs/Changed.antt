@@ -91,6 +91,7 @@ module _ (size : ℕ) (log : ℕ → ℕ) (of : ℕ → List Txn) (i : ℕ) (t n
     proposed = h.proposed;
     chosen = h.chosen;
     checked = λ part among key inside. none-agree size of now agree v.snapshot v.proposed key h.proposed (h.checked part among key inside);
+    unchanged = λ found among. let u = h.unchanged found among in (u.0, λ key inside. none-agree size of now agree v.snapshot found.number key u.0 (u.1 key inside));
     first = λ placed key has. none-agree size of now agree v.snapshot v.place key (omega (arith, (h.place placed).1)) (h.first placed key has);
     refusals = λ r among. named j v.snapshot r (h.refusals r among);
   }

@@ -1,14 +1,13 @@
 -- What is kept of an open transaction matches it after each change of both.
-use Rattle.std.proofs.Common.{◌≡◌, ◌≢◌, ℕ, List, [], ◌∷◌, ◌++◌, ◌⊎◌, ◌↔◌, refl, subst, inl, inr, Vec, Global, not}
+use Rattle.std.proofs.Common.{◌≡◌, ◌≢◌, ℕ, List, [], ◌∷◌, ◌++◌, ◌⊎◌, ◌↔◌, refl, sym, subst, inl, inr, Vec, Global, not}
 use Rattle.std.specs.Str.{bytes_eq}
 use Rattle.hc_range.specs.declared.range.Range.{Range}
 use Rattle.hc_range.specs.Ranges.{InAny, InRange}
-use Rattle.hc_core.specs.Account.{Txn, PartRead, HasRead, after_read, after_put, after_propose, after_check, after_decide, after_unput, without}
+use Rattle.hc_core.specs.Account.{Txn, PartRead, HasRead, after_read, after_put, after_check, after_decide, after_unput, without}
 use Rattle.hc_core.specs.Running.{Matches}
 use Rattle.hc_core.specs.declared.cells.Write.{Write}
 use Rattle.hc_core.specs.declared.cells.Part.{Part}
-use Rattle.hc_core.specs.declared.outcome.Lost.{Lost as LostRecord}
-use Rattle.hc_core.specs.declared.outcome.Outcome.TheVariants.{Done, Cells, Proposed, Lost, Decided}
+use Rattle.hc_core.specs.declared.outcome.Outcome.TheVariants.{Done, Cells, Decided}
 use Rattle.hc_core.specs.declared.running.Running.{Running}
 use Rattle.hc_core.proofs.Elements.{among_push, among_filter}
 
@@ -54,31 +53,21 @@ matches_checked r log part t grown h = record {
   writes = h.writes;
 }
 
-pub matches_proposed : (r : Running) (number : ℕ) (log : List Range) (t : Txn) → log ≡ [] → Matches r t
-    → Matches (record r { proposed = number; checked = log }) (after_propose (Proposed (record { 0 = number })) t)
-matches_proposed r number log t e h = record {
-  id = h.id;
-  ord = h.ord;
-  snapshot = h.snapshot;
-  proposed = refl;
-  place = h.place;
-  reads = h.reads;
-  checked = λ key. rw e ((λ a. a, λ a. a));
-  writes = h.writes;
-}
-
-pub matches_lost : (r : Running) (lost : LostRecord) (log : List Range) (t : Txn) → log ≡ [] → Matches r t
-    → Matches (record r { proposed = 0; checked = log }) (after_decide (Lost lost) t)
-matches_lost r lost log t e h = record {
-  id = h.id;
-  ord = h.ord;
-  snapshot = h.snapshot;
-  proposed = refl;
-  place = h.place;
-  reads = h.reads;
-  checked = λ key. rw e ((λ a. a, λ a. a));
-  writes = h.writes;
-}
+-- another proposal, or none, for which nothing was checked
+pub matches_proposal : (r new : Running) (number : ℕ) (t : Txn) → new ≡ record r { proposed = number; checked = [] } → Matches r t
+    → Matches new (record t { proposed = number; checked = [] })
+matches_proposal r new number t is h =
+    subst (λ q. Matches q (record t { proposed = number; checked = [] })) (sym is)
+    (record {
+      id = h.id;
+      ord = h.ord;
+      snapshot = h.snapshot;
+      proposed = refl;
+      place = h.place;
+      reads = h.reads;
+      checked = λ key. (λ a. a, λ a. a);
+      writes = h.writes;
+    })
 
 pub matches_put : (r : Running) (kept : Vec Write Global) (w : Write) (t : Txn) → kept.items ≡ r.writes.items ++ w ∷ [] → Matches r t
     → Matches (record r { writes = kept }) (after_put w.key w.rec Done t)

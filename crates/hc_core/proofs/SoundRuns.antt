@@ -99,7 +99,7 @@ module _ (m : Machine) (s : IsSound m) where
       (one_changed i (Check i from upto) (Met r.0) o.t (record o.t { refusals = record { by_check = true; met = r.0 } ∷ o.t.refusals }) o.rest o.is refl
       (kept_refused s.sound i o.t o.rest o.is (record { by_check = true; met = r.0 }) (names_found s.sound i o.t o.rest o.is r.0 (part_of from upto) r.1 r.2 r.3 r.4 r.5)) refl))
       (λ unchanged. subst (λ p. IsSound (after m (Check i from upto) p)) (sym unchanged.1)
-      (one_changed i (Check i from upto) Done o.t (record o.t { checked = part_of from upto ∷ o.t.checked }) o.rest o.is refl
+      (one_changed i (Check i from upto) Done o.t (record o.t { checked = part_of from upto ∷ o.t.checked; unchanged = record { part = part_of from upto; number = o.t.proposed } ∷ o.t.unchanged }) o.rest o.is refl
       (kept_check s.sound i o.t o.rest o.is (part_of from upto) unchanged.0) refl))
       (of_newest (txns_of m i) o.t o.rest (λ t. IsCheckAnswer m (part_of from upto) t outcome) o.is answer)
 

@@ -23,12 +23,18 @@ pub record PartRead : Type 0 where
   pub part : Range
   pub cells : List Cell
 
+-- a part that a check found unchanged, with the commit number that was proposed then
+pub record PartChecked : Type 0 where
+  pub part : Range
+  pub number : ℕ
+
 -- a refusal of a put or of a check, with whom it names
 pub record Refusal : Type 0 where
   pub by_check : Bool
   pub met : MetRecord
 
--- A transaction as its account shows it. A key stands put where it was put and not taken out.
+-- A transaction as its account shows it. A key stands put where it was put and not taken out. What counts as
+-- checked was checked for the proposal that stands; what a check found unchanged stays so, for its own number.
 -- Numbers count from 1, and 0 says: id, not drawn; ord, not drawn; proposed, nothing is proposed;
 -- place, not decided.
 pub record Txn : Type 0 where
@@ -40,6 +46,7 @@ pub record Txn : Type 0 where
   pub puts : List (List ℕ)
   pub proposed : ℕ
   pub checked : List Range
+  pub unchanged : List PartChecked
   pub refusals : List Refusal
   pub place : ℕ
   pub ended : Bool
@@ -55,6 +62,7 @@ begun_at snapshot = record {
   puts = [];
   proposed = 0;
   checked = [];
+  unchanged = [];
   refusals = [];
   place = 0;
   ended = false;
@@ -93,7 +101,7 @@ after_propose (Proposed number) t = record t { proposed = number.0; checked = []
 after_propose _ t = t
 
 abbrev pub after_check : Range → Outcome → Txn → Txn
-after_check part Done t = record t { checked = part ∷ t.checked }
+after_check part Done t = record t { checked = part ∷ t.checked; unchanged = record { part = part; number = t.proposed } ∷ t.unchanged }
 after_check part (Met met) t = record t { refusals = record { by_check = true; met = met } ∷ t.refusals }
 after_check part _ t = t
 

@@ -5,7 +5,7 @@ use Rattle.std.specs.Prelude.{◌≡◌, ◌≢◌, ℕ, ◌+◌, ◌<◌, ◌�
 use Rattle.hc_range.specs.declared.range.Range.{Range}
 use Rattle.hc_range.specs.Ranges.{InRange}
 use Rattle.hc_core.specs.Lookup.{Among}
-use Rattle.hc_core.specs.Account.{Txn, PartRead, Refusal, Stands, HasRead}
+use Rattle.hc_core.specs.Account.{Txn, PartRead, PartChecked, Refusal, Stands, HasRead}
 use Rattle.hc_core.specs.Versions.{PutAt, AreCellsAfter}
 use Rattle.hc_core.specs.Machine.{Machine, txns_of}
 use Rattle.hc_core.specs.declared.cells.Write.{Write}
@@ -55,6 +55,9 @@ pub record TxnIsSound (size : ℕ) (of : ℕ → List Txn) (i : ℕ) (t : Txn) :
   pub chosen : t.place ≢ 0 → t.proposed ≡ t.place
   -- no commit between its snapshot and that number put a key of a part that was checked for it
   pub checked : (part : Range) → Among part t.checked → (key : List ℕ) → InRange part key → NonePutBetween of t.snapshot t.proposed key
+  -- and so it is for each part that a check ever found unchanged, below the number that was proposed then
+  pub unchanged : (found : PartChecked) → Among found t.unchanged → (found.number ≤ size + 1)
+      × ((key : List ℕ) → InRange found.part key → NonePutBetween of t.snapshot found.number key)
   -- the first committer wins: no commit between its snapshot and its place put a key that it read or put
   pub first : t.place ≢ 0 → (key : List ℕ) → HasRead t key ⊎ Stands t key → NonePutBetween of t.snapshot t.place key
   -- each refusal names a transaction of another connection

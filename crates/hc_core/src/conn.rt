@@ -161,8 +161,7 @@ impl Conn {
         let Some(mut running) = self.running.take() else {
             unreachable!()
         };
-        running.proposed = number;
-        running.checked.clear();
+        running.set_proposal(number);
         self.running = Some(running);
         let outcome = Outcome::Proposed(Cid(number));
         self.diary.note(event, &outcome);
@@ -218,8 +217,7 @@ impl Conn {
         let Some(mut running) = self.running.take() else {
             unreachable!()
         };
-        running.proposed = 0;
-        running.checked.clear();
+        running.set_proposal(0);
         self.running = Some(running);
         let outcome = Outcome::Lost(lost);
         self.diary.note(event, &outcome);

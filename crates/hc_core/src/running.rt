@@ -41,6 +41,15 @@ impl Running {
             checked: ReadLog::new(alloc),
         }
     }
+
+    /// Puts a proposal in place of the one before it, or none where the number is 0. What was checked for the one before
+    /// it counts no more.
+    pub fn set_proposal(&mut self, number: u32)
+        ensures { self.new ≡ record self.old { proposed = number; checked = [] } }
+    {
+        self.proposed = number;
+        self.checked.clear();
+    }
 }
 
 /// Whether a key is among the writes.

@@ -56,6 +56,7 @@ module _ {size : ℕ} {log : ℕ → ℕ} {of : ℕ → List Txn} (s : AreSound 
     proposed = h.proposed;
     chosen = h.chosen;
     checked = λ part among key inside. none-agree size of now agree v.snapshot v.proposed key h.proposed (h.checked part among key inside);
+    unchanged = λ found among. let u = h.unchanged found among in (u.0, λ key inside. none-agree size of now agree v.snapshot found.number key u.0 (u.1 key inside));
     first = λ placed key has. none-agree size of now agree v.snapshot v.place key (omega (arith, (h.place placed).1)) (h.first placed key has);
     refusals = λ r among. let n = h.refusals r among in (n.0, n.1, grown_here of i new n.0 n.1 n.2, n.3, n.4, n.5, n.6, n.7, n.8, n.9);
   }
@@ -74,6 +75,7 @@ module _ {size : ℕ} {log : ℕ → ℕ} {of : ℕ → List Txn} (s : AreSound 
     proposed = omega arith;
     chosen = λ placed. absurd (placed refl);
     checked = λ part among. absurd among;
+    unchanged = λ found among. absurd among;
     first = λ placed. absurd (placed refl);
     refusals = λ r among. absurd among;
   }

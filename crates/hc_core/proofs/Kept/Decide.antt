@@ -86,6 +86,7 @@ module _ {size : ℕ} {log : ℕ → ℕ} {of : ℕ → List Txn} (s : AreSound 
     proposed = omega (arith, g.proposed);
     chosen = g.chosen;
     checked = λ part among key inside. none-agree size of now agree v.snapshot v.proposed key g.proposed (g.checked part among key inside);
+    unchanged = λ found among. let u = g.unchanged found among in (omega (arith, u.0), λ key inside. none-agree size of now agree v.snapshot found.number key u.0 (u.1 key inside));
     first = λ placed key has. none-agree size of now agree v.snapshot v.place key (omega (arith, (g.place placed).1)) (g.first placed key has);
     refusals = λ r among. named j v.snapshot r g.snapshot (g.refusals r among);
   }
@@ -116,6 +117,7 @@ module _ {size : ℕ} {log : ℕ → ℕ} {of : ℕ → List Txn} (s : AreSound 
     proposed = omega (arith, proposes);
     chosen = λ placed. proposes;
     checked = λ part among key inside. none-agree size of now agree t.snapshot t.proposed key h.proposed (h.checked part among key inside);
+    unchanged = λ found among. let u = h.unchanged found among in (omega (arith, u.0), λ key inside. none-agree size of now agree t.snapshot found.number key u.0 (u.1 key inside));
     first = λ placed key has. none-agree size of now agree t.snapshot (size + 1) key (omega arith) (⊎_elim (none_read key) (none_put key) has);
     refusals = λ r among. named i t.snapshot r h.snapshot (h.refusals r among);
   }

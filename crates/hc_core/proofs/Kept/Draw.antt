@@ -34,6 +34,7 @@ kept_draw {size} {log} {of} s i t rest is id ord undrawn some fresh above =
       proposed = h.proposed;
       chosen = h.chosen;
       checked = h.checked;
+      unchanged = h.unchanged;
       first = h.first;
       refusals = h.refusals;
     })

@@ -26,6 +26,7 @@ kept_end {size} {log} {of} s i t rest is may_end =
       proposed = h.proposed;
       chosen = h.chosen;
       checked = h.checked;
+      unchanged = h.unchanged;
       first = h.first;
       refusals = h.refusals;
     })

@@ -26,6 +26,7 @@ kept_lost {size} {log} {of} s i t rest is undecided =
       proposed = omega arith;
       chosen = λ placed. absurd (placed undecided);
       checked = λ part among. absurd among;
+      unchanged = h.unchanged;
       first = h.first;
       refusals = h.refusals;
     })

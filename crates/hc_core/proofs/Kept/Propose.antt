@@ -27,6 +27,7 @@ kept_propose {size} {log} {of} s i t rest is number drawn undecided within =
       proposed = within;
       chosen = λ placed. absurd (placed undecided);
       checked = λ part among. absurd among;
+      unchanged = h.unchanged;
       first = h.first;
       refusals = h.refusals;
     })

@@ -34,6 +34,7 @@ kept_put {size} {log} {of} s i t rest is key rec running drawn undecided not_yet
       proposed = h.proposed;
       chosen = h.chosen;
       checked = h.checked;
+      unchanged = h.unchanged;
       first = λ placed. absurd (placed undecided);
       refusals = h.refusals;
     })

@@ -30,6 +30,7 @@ kept_read {size} {log} {of} s i t rest is part cells undrawn are_cells =
       proposed = h.proposed;
       chosen = h.chosen;
       checked = h.checked;
+      unchanged = h.unchanged;
       first = λ placed. absurd (placed (h.undrawn undrawn).0);
       refusals = h.refusals;
     })

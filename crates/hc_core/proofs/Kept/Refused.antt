@@ -27,6 +27,7 @@ kept_refused {size} {log} {of} s i t rest is refusal names =
       proposed = h.proposed;
       chosen = h.chosen;
       checked = h.checked;
+      unchanged = h.unchanged;
       first = h.first;
       refusals = λ r among. ⊎_elim (λ same. subst (NamesWriter of i t.snapshot) (sym same) names) (λ old. h.refusals r old) among;
     })

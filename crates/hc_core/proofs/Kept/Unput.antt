@@ -27,6 +27,7 @@ kept_unput {size} {log} {of} s i t rest is key undecided =
       proposed = h.proposed;
       chosen = h.chosen;
       checked = h.checked;
+      unchanged = h.unchanged;
       first = λ placed. absurd (placed undecided);
       refusals = h.refusals;
     })
