@@ -125,7 +125,7 @@ check_refused m i from upto r met h some found = inl (
 
 -- a short key put by an undecided transaction
 pub settles_put : (key : List ℕ) (rec : Option (List ℕ)) (t : Txn) → t.place ≡ 0 → length key ≤ 463
-    → Settles t (record t { standing = record { key = key; rec = rec } ∷ t.standing; puts = key ∷ t.puts })
+    → Settles t (record t { standing = record { key = key; rec = rec } ∷ t.standing; puts = record { key = key; rec = rec } ∷ t.puts })
 settles_put key rec t undecided short = record {
   decided = λ some. absurd (some undecided);
   short = λ all other stands. elim (stands.1) [

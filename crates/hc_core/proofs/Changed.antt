@@ -2,7 +2,7 @@
 use Rattle.std.proofs.Common.{◌≡◌, ◌≢◌, ◌∙◌, ⊎_elim, refl, sym, subst, ℕ, ◌+◌, ◌<◌, ◌≤◌, true, List, ◌∷◌, Option, arith}
 use Rattle.std.proofs.lemmas.Bool.{cases_eq}
 use Rattle.hc_core.specs.Lookup.{Among, but}
-use Rattle.hc_core.specs.Account.{Txn, Refusal, Stands, StandsAs}
+use Rattle.hc_core.specs.Account.{Txn, Refusal, HoldsKey, Stands, StandsAs}
 use Rattle.hc_core.specs.Versions.{PutAt}
 use Rattle.hc_core.specs.Sound.{TxnIsSound, NamesWriter, ComesAfterEach, AreInOrder, AreSound}
 use Rattle.hc_core.specs.declared.cells.Write.{Write}
@@ -14,7 +14,7 @@ pub record Keeps (t new : Txn) : Type 0 where
   pub place : new.place ≡ t.place
   pub standing : t.place ≢ 0 → new.standing ≡ t.standing
   pub id : t.place ≢ 0 → new.id ≡ t.id
-  pub named : (key : List ℕ) → Among key t.puts → (new.id ≡ t.id) × (new.ord ≡ t.ord) × Among key new.puts
+  pub named : (key : List ℕ) → HoldsKey t.puts key → (new.id ≡ t.id) × (new.ord ≡ t.ord) × HoldsKey new.puts key
 
 module _ (size : ℕ) (log : ℕ → ℕ) (of : ℕ → List Txn) (i : ℕ) (t new : Txn) (rest : List Txn) (s : AreSound size log of) (is : of i ≡ t ∷ rest) (keeps : Keeps t new) where
   abbrev now : ℕ → List Txn
@@ -47,7 +47,7 @@ module _ (size : ℕ) (log : ℕ → ℕ) (of : ℕ → List Txn) (i : ℕ) (t n
   named : (j snapshot : ℕ) (r : Refusal) → NamesWriter of j snapshot r → NamesWriter now j snapshot r
   named j snapshot r n =
       each_old of i t rest is
-      (λ k u. k ≢ j → r.met.conn ≡ k → r.met.tid.0 ≡ u.id → r.met.ord ≡ u.ord → Among r.met.key u.puts → (u.place ≢ 0 → snapshot < u.place) → (r.by_check ≡ true → u.place ≢ 0) → NamesWriter now j snapshot r)
+      (λ k u. k ≢ j → r.met.conn ≡ k → r.met.tid.0 ≡ u.id → r.met.ord ≡ u.ord → HoldsKey u.puts r.met.key → (u.place ≢ 0 → snapshot < u.place) → (r.by_check ≡ true → u.place ≢ 0) → NamesWriter now j snapshot r)
       (λ other conn id ord put above committed.
       let same = keeps.named r.met.key put in (
         i,

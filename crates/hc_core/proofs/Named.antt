@@ -3,12 +3,16 @@ use Rattle.std.proofs.Common.{◌≡◌, ◌≢◌, ⊎_elim, sym, subst, ℕ, �
 use Rattle.std.proofs.lemmas.Bool.{false≢true}
 use Rattle.hc_range.specs.declared.range.Range.{Range}
 use Rattle.hc_core.specs.Lookup.{Among}
-use Rattle.hc_core.specs.Account.{Txn}
+use Rattle.hc_core.specs.Account.{Txn, HoldsKey, Stands}
 use Rattle.hc_core.specs.Versions.{IsInTheWay, IsBetween, IsFound}
 use Rattle.hc_core.specs.Machine.{Names}
 use Rattle.hc_core.specs.Sound.{AreSound, NamesWriter}
 use Rattle.hc_core.specs.declared.outcome.Met.{Met}
 use Rattle.hc_core.proofs.Ordered.{newest_or_older, newest_sound}
+
+-- a key that stands put was put
+put_listed : {size : ℕ} {log : ℕ → ℕ} {of : ℕ → List Txn} → AreSound size log of → (j : ℕ) (u : Txn) → Among u (of j) → (key : List ℕ) → Stands u key → HoldsKey u.puts key
+put_listed s j u there key stands = (stands.0, (s.each j u there).listed (record { key = key; rec = stands.0 }) stands.1)
 
 module _ {size : ℕ} {log : ℕ → ℕ} {of : ℕ → List Txn} (s : AreSound size log of) (i : ℕ) (t : Txn) (rest : List Txn) (is : of i ≡ t ∷ rest) where
   -- what is in the way of an undecided transaction is another connection's
@@ -32,7 +36,7 @@ module _ {size : ℕ} {log : ℕ → ℕ} {of : ℕ → List Txn} (s : AreSound 
     names.1,
     names.0,
     names.2,
-    subst (λ k. Among k u.puts) (sym names.3) ((s.each j u way.0.0).listed key way.0.1),
+    subst (HoldsKey u.puts) (sym names.3) (put_listed s j u way.0.0 key way.0.1),
     λ placed. ⊎_elim (λ open_u. absurd (placed open_u.0)) (λ above. above) way.1,
     λ by_check. absurd (false≢true by_check),
   )
@@ -56,7 +60,7 @@ module _ {size : ℕ} {log : ℕ → ℕ} {of : ℕ → List Txn} (s : AreSound 
         names.1,
         names.0,
         names.2,
-        subst (λ k. Among k u.puts) (sym names.3) ((s.each j u b.0).listed key b.3),
+        subst (HoldsKey u.puts) (sym names.3) (put_listed s j u b.0 key b.3),
         λ placed. b.1,
         λ by_check none. omega (arith, none, b.1),
       )

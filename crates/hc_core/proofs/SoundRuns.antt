@@ -81,7 +81,7 @@ module _ (m : Machine) (s : IsSound m) where
       (one_changed i (Put i key rec) (Met r.0) o.t (record o.t { refusals = record { by_check = false; met = r.0 } ∷ o.t.refusals }) o.rest o.is refl
       (kept_refused s.sound i o.t o.rest o.is (record { by_check = false; met = r.0 }) (names_in_the_way s.sound i o.t o.rest o.is o.holds.1 r.0 key r.1 r.2 r.3 r.4)) refl))
       (λ free. subst (λ p. IsSound (after m (Put i key rec) p)) (sym free.1)
-      (one_changed i (Put i key rec) Done o.t (record o.t { standing = record { key = key; rec = rec } ∷ o.t.standing; puts = key ∷ o.t.puts }) o.rest o.is refl
+      (one_changed i (Put i key rec) Done o.t (record o.t { standing = record { key = key; rec = rec } ∷ o.t.standing; puts = record { key = key; rec = rec } ∷ o.t.puts }) o.rest o.is refl
       (kept_put s.sound i o.t o.rest o.is key rec o.running o.holds.0 o.holds.1 o.holds.3 free.0) refl))
       (of_newest (txns_of m i) o.t o.rest (λ t. IsPutAnswer m i key t outcome) o.is answer)
 

@@ -2,7 +2,7 @@
 use Rattle.std.proofs.Common.{◌≡◌, ◌⊎◌, inl, inr, ⊎_elim, sym, ap, ℕ, Bool, true, false, cond, not, List, [], ◌∷◌, Option, filter, subst, bytes_eq}
 use Rattle.hc_core.specs.declared.cells.Write.{Write}
 use Rattle.hc_core.specs.Lookup.{Among}
-use Rattle.hc_core.specs.Account.{Txn, Stands, without}
+use Rattle.hc_core.specs.Account.{Txn, HoldsKey, Stands, without}
 use Rattle.hc_core.specs.Sound.{IsAbsent, HasEachOnce}
 
 -- a key stands put among writes
@@ -48,15 +48,18 @@ once_filter test (w ∷ ws) once = by_test (test w) (once_filter test ws once.1)
     by_test false later = later
 
 -- what stands but for a key stood before
+pub among_without : (key : List ℕ) (x : Write) (ws : List Write) → Among x (without key ws) → Among x ws
+among_without key x ws there = among_filter (λ w. not (bytes_eq w.key key)) x ws there
+
 pub stands_without : (key : List ℕ) (ws : List Write) (other : List ℕ) → StandsIn other (without key ws) → StandsIn other ws
-stands_without key ws other stands = (stands.0, among_filter (λ w. not (bytes_eq w.key key)) (record { key = other; rec = stands.0 }) ws stands.1)
+stands_without key ws other stands = (stands.0, among_without key (record { key = other; rec = stands.0 }) ws stands.1)
 
 pub once_without : (key : List ℕ) (ws : List Write) → HasEachOnce ws → HasEachOnce (without key ws)
 once_without key ws once = once_filter (λ w. not (bytes_eq w.key key)) ws once
 
 -- nothing is among no puts
-pub nothing_put : (t : Txn) → t.puts ≡ [] → (key : List ℕ) → Among key t.puts → ⊥
-nothing_put t none key put = subst (Among key) none put
+pub nothing_put : (t : Txn) → t.puts ≡ [] → (key : List ℕ) → HoldsKey t.puts key → ⊥
+nothing_put t none key put = subst (Among (record { key = key; rec = put.0 })) none put.1
 
 -- nothing stands among no writes
 pub nothing_stands : (t : Txn) → t.standing ≡ [] → (key : List ℕ) → Stands t key → ⊥

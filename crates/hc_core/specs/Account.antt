@@ -33,8 +33,9 @@ pub record Refusal : Type 0 where
   pub by_check : Bool
   pub met : MetRecord
 
--- A transaction as its account shows it. A key stands put where it was put and not taken out. What counts as
--- checked was checked for the proposal that stands; what a check found unchanged stays so, for its own number.
+-- A transaction as its account shows it. A key stands put where it was put and not taken out; `puts` has all that
+-- was ever put, the last one first. What counts as checked was checked for the proposal that stands; what a check
+-- found unchanged stays so, for its own number.
 -- Numbers count from 1, and 0 says: id, not drawn; ord, not drawn; proposed, nothing is proposed;
 -- place, not decided.
 pub record Txn : Type 0 where
@@ -43,7 +44,7 @@ pub record Txn : Type 0 where
   pub snapshot : ℕ
   pub reads : List PartRead
   pub standing : List Write
-  pub puts : List (List ℕ)
+  pub puts : List Write
   pub proposed : ℕ
   pub checked : List Range
   pub unchanged : List PartChecked
@@ -92,7 +93,7 @@ after_read part (Cells found) t = record t { reads = record { part = part; cells
 after_read part _ t = t
 
 abbrev pub after_put : List ℕ → Option (List ℕ) → Outcome → Txn → Txn
-after_put key rec Done t = record t { standing = record { key = key; rec = rec } ∷ t.standing; puts = key ∷ t.puts }
+after_put key rec Done t = record t { standing = record { key = key; rec = rec } ∷ t.standing; puts = record { key = key; rec = rec } ∷ t.puts }
 after_put key rec (Met met) t = record t { refusals = record { by_check = false; met = met } ∷ t.refusals }
 after_put key rec _ t = t
 

@@ -5,7 +5,7 @@ use Rattle.std.specs.Prelude.{◌≡◌, ◌≢◌, ℕ, ◌+◌, ◌<◌, ◌�
 use Rattle.hc_range.specs.declared.range.Range.{Range}
 use Rattle.hc_range.specs.Ranges.{InRange}
 use Rattle.hc_core.specs.Lookup.{Among}
-use Rattle.hc_core.specs.Account.{Txn, PartRead, PartChecked, Refusal, Stands, HasRead}
+use Rattle.hc_core.specs.Account.{Txn, PartRead, PartChecked, Refusal, HoldsKey, Stands, HasRead}
 use Rattle.hc_core.specs.Versions.{PutAt, AreCellsAfter}
 use Rattle.hc_core.specs.Machine.{Machine, txns_of}
 use Rattle.hc_core.specs.declared.cells.Write.{Write}
@@ -28,7 +28,7 @@ HasEachOnce (w ∷ ws) = IsAbsent w.key ws × HasEachOnce ws
 -- that put the key; where that one is committed, it is above the snapshot, and after a check it is committed
 abbrev pub NamesWriter : (ℕ → List Txn) → ℕ → ℕ → Refusal → Type 0
 NamesWriter of i snapshot r = (j : ℕ) × (u : Txn) × Among u (of j) × (j ≢ i)
-    × (r.met.conn ≡ j) × (r.met.tid.0 ≡ u.id) × (r.met.ord ≡ u.ord) × Among r.met.key u.puts
+    × (r.met.conn ≡ j) × (r.met.tid.0 ≡ u.id) × (r.met.ord ≡ u.ord) × HoldsKey u.puts r.met.key
     × (u.place ≢ 0 → snapshot < u.place) × (r.by_check ≡ true → u.place ≢ 0)
 
 -- what holds of a transaction t of connection i, where the log has `size` entries
@@ -41,8 +41,8 @@ pub record TxnIsSound (size : ℕ) (of : ℕ → List Txn) (i : ℕ) (t : Txn) :
   -- where it was rolled back, nothing of it stands
   pub rolled_back : t.ended ≡ true → t.place ≡ 0 → t.standing ≡ []
   pub once : HasEachOnce t.standing
-  -- what stands put was put
-  pub listed : (key : List ℕ) → Stands t key → Among key t.puts
+  -- what stands put was put, with the same record
+  pub listed : (w : Write) → Among w t.standing → Among w t.puts
   -- while it is undecided, a key that stands put in it stands put in no undecided one of another connection
   pub alone : t.place ≡ 0 → (j : ℕ) (u : Txn) (key : List ℕ) → Among u (of j) → u.place ≡ 0 → Stands t key → Stands u key → j ≡ i
   -- and no commit above its snapshot put that key

@@ -68,7 +68,7 @@ module _ {size : ℕ} {log : ℕ → ℕ} {of : ℕ → List Txn} (s : AreSound 
     place = λ placed. absurd (placed refl);
     rolled_back = λ ended undecided. refl;
     once = tt;
-    listed = λ key stands. absurd stands.1;
+    listed = λ w stands. absurd stands;
     alone = λ undecided k u key among u_undecided stands. absurd stands.1;
     newest = λ undecided k u key among stands. absurd stands.1;
     reads = λ read among. absurd among;

@@ -4,7 +4,7 @@ use Rattle.std.proofs.lemmas.Bool.{cases_eq, cases_lt}
 use Rattle.hc_range.specs.declared.range.Range.{Range}
 use Rattle.hc_range.specs.Ranges.{InRange, InAny, Includes}
 use Rattle.hc_core.specs.Lookup.{Among, but}
-use Rattle.hc_core.specs.Account.{Txn, PartRead, Refusal, Stands, StandsAs, HasRead}
+use Rattle.hc_core.specs.Account.{Txn, PartRead, Refusal, HoldsKey, Stands, StandsAs, HasRead}
 use Rattle.hc_core.specs.Versions.{PutAt}
 use Rattle.hc_core.specs.Sound.{AreSound, TxnIsSound, AreInOrder, NamesWriter, NonePutBetween}
 use Rattle.hc_core.proofs.Lookups.{but-same, but-other, new_here, rest_here, others_here, each_new, each_old, old_there, rest_there}
@@ -55,7 +55,7 @@ module _ {size : ℕ} {log : ℕ → ℕ} {of : ℕ → List Txn} (s : AreSound 
   named : (j snapshot : ℕ) (r : Refusal) → snapshot ≤ size → NamesWriter of j snapshot r → NamesWriter now j snapshot r
   named j snapshot r within n =
       each_old of i t rest is
-      (λ k u. k ≢ j → r.met.conn ≡ k → r.met.tid.0 ≡ u.id → r.met.ord ≡ u.ord → Among r.met.key u.puts → (u.place ≢ 0 → snapshot < u.place) → (r.by_check ≡ true → u.place ≢ 0) → NamesWriter now j snapshot r)
+      (λ k u. k ≢ j → r.met.conn ≡ k → r.met.tid.0 ≡ u.id → r.met.ord ≡ u.ord → HoldsKey u.puts r.met.key → (u.place ≢ 0 → snapshot < u.place) → (r.by_check ≡ true → u.place ≢ 0) → NamesWriter now j snapshot r)
       (λ other conn id ord put above committed. (i, new, new_here of i new rest, other, conn, id, ord, put, λ placed. omega arith, λ by_check none. absurd (omega (arith, none))))
       (λ u there other conn id ord put above committed. (i, u, rest_here of i new rest u there, other, conn, id, ord, put, above, committed))
       (λ k u differ there other conn id ord put above committed. (k, u, others_here of i new rest k u differ there, other, conn, id, ord, put, above, committed))

@@ -11,11 +11,11 @@ use Rattle.hc_core.proofs.Kept.Same.{kept_same}
 pub kept_put : {size : ℕ} {log : ℕ → ℕ} {of : ℕ → List Txn} (s : AreSound size log of) (i : ℕ) (t : Txn) (rest : List Txn) (is : of i ≡ t ∷ rest)
     (key : List ℕ) (rec : Option (List ℕ)) → t.ended ≡ false → t.id ≢ 0 → t.place ≡ 0 → (Stands t key → ⊥)
     → IsFree of i t.snapshot key
-    → AreSound size log (but of i (record t { standing = record { key = key; rec = rec } ∷ t.standing; puts = key ∷ t.puts } ∷ rest))
+    → AreSound size log (but of i (record t { standing = record { key = key; rec = rec } ∷ t.standing; puts = record { key = key; rec = rec } ∷ t.puts } ∷ rest))
 kept_put {size} {log} {of} s i t rest is key rec running drawn undecided not_yet free =
     let h = newest_sound s i t rest is in
-    kept_same s i t (record t { standing = record { key = key; rec = rec } ∷ t.standing; puts = key ∷ t.puts }) rest is
-    (record { place = refl; standing = λ placed. absurd (placed undecided); id = λ placed. refl; named = λ key put. (refl, refl, inr put) })
+    kept_same s i t (record t { standing = record { key = key; rec = rec } ∷ t.standing; puts = record { key = key; rec = rec } ∷ t.puts }) rest is
+    (record { place = refl; standing = λ placed. absurd (placed undecided); id = λ placed. refl; named = λ key put. (refl, refl, (put.0, inr put.1)) })
     (record { id = refl; ord = refl; snapshot = refl })
     (record {
       snapshot = h.snapshot;
@@ -23,7 +23,7 @@ kept_put {size} {log} {of} s i t rest is key rec running drawn undecided not_yet
       place = h.place;
       rolled_back = λ ended. absurd (true≢false (sym ended ∙ running));
       once = (absent key t.standing not_yet, h.once);
-      listed = λ other stands. ⊎_elim (λ same. inl same) (λ old. inr (h.listed other old)) (stands_front key rec t.standing other stands);
+      listed = λ w stands. ⊎_elim (λ same. inl same) (λ old. inr (h.listed w old)) stands;
       alone = λ open_t j u other among u_undecided stands u_stands.
           ⊎_elim (λ same. ⊎_elim (λ placed. absurd (placed u_undecided)) (λ own. own) (free j u among (subst (Stands u) same u_stands)).0) (λ old. h.alone open_t j u other among u_undecided old u_stands)
           (stands_front key rec t.standing other stands);

@@ -4,7 +4,7 @@ use Rattle.hc_core.specs.Lookup.{but}
 use Rattle.hc_core.specs.Account.{Txn, without}
 use Rattle.hc_core.specs.Sound.{AreSound}
 use Rattle.hc_core.proofs.Ordered.{newest_sound}
-use Rattle.hc_core.proofs.Standing.{stands_without, once_without}
+use Rattle.hc_core.proofs.Standing.{among_without, stands_without, once_without}
 use Rattle.hc_core.proofs.Kept.Same.{kept_same}
 
 pub kept_unput : {size : ℕ} {log : ℕ → ℕ} {of : ℕ → List Txn} (s : AreSound size log of) (i : ℕ) (t : Txn) (rest : List Txn) (is : of i ≡ t ∷ rest)
@@ -20,7 +20,7 @@ kept_unput {size} {log} {of} s i t rest is key undecided =
       place = h.place;
       rolled_back = λ ended open_t. ap (without key) (h.rolled_back ended open_t);
       once = once_without key t.standing h.once;
-      listed = λ other stands. h.listed other (stands_without key t.standing other stands);
+      listed = λ w stands. h.listed w (among_without key w t.standing stands);
       alone = λ open_t j u other among u_undecided stands u_stands. h.alone open_t j u other among u_undecided (stands_without key t.standing other stands) u_stands;
       newest = λ open_t j u other among stands u_stands. h.newest open_t j u other among (stands_without key t.standing other stands) u_stands;
       reads = h.reads;
