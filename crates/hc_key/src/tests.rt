@@ -38,6 +38,11 @@ fn a_prefix_goes_up_to_ff(rt: HostRuntime) -> Result<(), Fail> {
     assert_eq!(rt; contains(&range, within.as_slice()), true);
     let other = key_of(alloc, 2, &[])?;
     assert_eq!(rt; contains(&range, other.as_slice()), false);
+    let range = prefix_range(alloc, 1, &[Value::Null])?;
+    let within = key_of(alloc, 1, &[Value::Null, Value::Int(7)])?;
+    assert_eq!(rt; contains(&range, within.as_slice()), true);
+    let other = key_of(alloc, 1, &[Value::Int(7)])?;
+    assert_eq!(rt; contains(&range, other.as_slice()), false);
     Ok(())
 }
 
