@@ -34,6 +34,7 @@ pub right-alone : (statements : List Statement) → IsRightRun (setup_of stateme
 right-alone statements =
     let all = all-so_far statements in
     record {
+      ascending = λ k within. absurd (omega (arith, within));
       transactions = transactions_of 1 0 empty_db statements;
       is_cut = cut_all-played statements;
       history = all.0;

@@ -1,5 +1,6 @@
 -- When printed bytes are a right output for an input.
-use Rattle.std.specs.Prelude.{◌≡◌, ◌≢◌, ◌↔◌, ⊤, ℕ, ◌<◌, ◌≤◌, List, length, Some, Contains, slice_get}
+use Rattle.std.specs.Prelude.{◌≡◌, ◌≢◌, ◌↔◌, ⊤, ℕ, ◌<◌, ◌≤◌, List, length, map, Some, Contains, slice_get}
+use Rattle.std.specs.List.Sorted.{IsStrictlyIncreasing}
 use Rattle.hc_reply.specs.declared.reply.Ending.{Ending}
 use Rattle.hc_reply.specs.declared.reply.Ending.TheVariants.{Commit, Snapshot, RolledBack}
 use Rattle.hc_reply.specs.declared.reply.Transcript.{Transcript}
@@ -44,6 +45,8 @@ pub record IsInOrder (transactions history : List Transaction) : Type 0 where
 
 -- These transcripts are right for these scripts.
 pub record IsRightRun (scripts : List Script) (transcripts : List Transcript) : Type 0 where
+  -- The scripts are of different connections, by number.
+  pub ascending : IsStrictlyIncreasing (map (λ script. script.conn) scripts)
   -- One transcript for each connection with a statement, one reply for each statement, and endings where
   -- transactions end and nowhere else.
   pub transactions : List Transaction
