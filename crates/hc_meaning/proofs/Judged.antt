@@ -1,28 +1,35 @@
--- Replies are a right run of the setup script alone exactly where they are the serial run's.
-use Rattle.std.proofs.Common.{◌≡◌, ◌∙◌, sym, ap, subst, refl, List, [], ◌∷◌}
-use Rattle.std.specs.Prelude.{◌↔◌}
-use Rattle.hc_reply.specs.declared.reply.Reply.{Reply}
+-- What a right run's parts are, where the transactions and the history are found.
+use Rattle.std.proofs.Common.{◌≡◌, ◌∙◌, subst, List, Option, Some}
+use Rattle.std.specs.Prelude.{Contains}
 use Rattle.hc_reply.specs.declared.reply.Transcript.{Transcript}
-use Rattle.hc_meaning.specs.declared.statement.Statement.{Statement}
-use Rattle.hc_meaning.specs.Database.{empty_db}
-use Rattle.hc_meaning.specs.Played.{played, transcripts_of}
-use Rattle.hc_meaning.specs.RightOutput.{IsRightRun}
-use Rattle.hc_meaning.proofs.Alone.{setup_of, right-alone}
-use Rattle.hc_meaning.proofs.OnlyRun.{only-right}
+use Rattle.hc_meaning.specs.declared.transaction.Script.{Script}
+use Rattle.hc_meaning.specs.declared.transaction.Transaction.{Transaction}
+use Rattle.hc_meaning.specs.Transactions.{cut_all}
+use Rattle.hc_meaning.specs.History.{IsHistory, IsLegal}
+use Rattle.hc_meaning.specs.RightOutput.{IsInOrder, IsReadUnlessCommitted, IsRightRun}
+use Rattle.hc_meaning.proofs.OneHistory.{history-once}
 
--- the replies that transcripts show
-abbrev shown : List Transcript → List Reply
-shown [] = []
-shown (transcript ∷ transcripts) = transcript.replies
+-- each that was not committed was read on the db that it names
+abbrev pub AreRead : List Transaction → List Transaction → Type 0
+AreRead transactions history = (t : Transaction) → Contains transactions t → IsReadUnlessCommitted history t t.ending
 
--- a connection's are those that it had
-shown-transcripts_of : (replies : List Reply) → shown (transcripts_of 0 replies) ≡ replies
-shown-transcripts_of [] = refl
-shown-transcripts_of (reply ∷ replies) = refl
+module _ (scripts : List Script) (transcripts : List Transcript) (found : List Transaction) (is_cut : Some found ≡ cut_all scripts transcripts) (right : IsRightRun scripts transcripts) where
+  same_transactions : right.transactions ≡ found
+  same_transactions =
+      let both : ◌≡◌ {A = Option (List Transaction)} (Some found) (Some right.transactions) = is_cut ∙ right.is_cut in cc
 
--- by the two laws, one for each direction
-pub right-exactly : (statements : List Statement) (replies : List Reply) → (replies ≡ played 0 empty_db statements) ↔ IsRightRun (setup_of statements) (transcripts_of 0 replies)
-right-exactly statements replies = (
-  λ same. subst (λ (r : List Reply). IsRightRun (setup_of statements) (transcripts_of 0 r)) (sym same) (right-alone statements),
-  λ right. sym (shown-transcripts_of replies) ∙ ap shown (only-right statements (transcripts_of 0 replies) right) ∙ shown-transcripts_of (played 0 empty_db statements),
-)
+  found_history : IsHistory found right.history
+  found_history = subst (λ (ts : List Transaction). IsHistory ts right.history) same_transactions right.is_history
+
+  module _ (history : List Transaction) (is_history : IsHistory found history) where
+    same_history : right.history ≡ history
+    same_history = history-once found right.history history found_history is_history
+
+    pub found_legal : IsLegal history
+    found_legal = subst IsLegal same_history right.is_legal
+
+    pub found_read : AreRead found history
+    found_read = subst (λ (h : List Transaction). AreRead found h) same_history (subst (λ (ts : List Transaction). AreRead ts right.history) same_transactions right.others)
+
+    pub found_order : IsInOrder found history
+    found_order = subst (λ (h : List Transaction). IsInOrder found h) same_history (subst (λ (ts : List Transaction). IsInOrder ts right.history) same_transactions right.in_order)

@@ -1,17 +1,24 @@
+mod AllCuts
 pub mod Alone
 mod Cuts
+mod Differences
+mod Follows
 mod Grown
-mod Judged
 pub mod Numbers
+mod Judged
 mod OneConnection
+mod OneHistory
 mod OnlyOutput
 mod OnlyRun
 mod Peeled
 mod Places
+mod Rising
 mod Rows
 mod Runs
 pub mod Scripts
+mod Setups
 mod SoFar
+mod SoFarEach
 pub mod Spans
 pub mod Statements
 mod Steps

@@ -6,7 +6,8 @@
 //! the commits (`History`). These definitions know lists and a fold, and nothing of the program.
 //!
 //! Beside them stands `plain`, a slow program that computes the functions among them and judges runs
-//! of the setup script alone, so that the definitions can be tried on small inputs. Only tests use it.
+//! of any number of connections, so that the definitions can be tried on small inputs. Only tests use
+//! it.
 //! `laws` states what follows from the definitions alone.
 #![tactic(auto)]
 

@@ -1,64 +1,24 @@
-// Whether two answers, or two replies, are the same.
+// Whether answers, and replies without their endings, are the same.
 ghost use Rattle.std.specs.Prelude.{◌≡◌, ◌↔◌, IsTrue};
+ghost use Rattle.hc_meaning.specs.Run.{answer_of};
 
 use crate::Answer;
-use hc_reply::{Ending, Line, Refusal, Reply, Row};
+use hc_reply::{Line, Refusal, Reply, Row};
 use hc_value::Value;
 
-/// Whether two statements answered the same: the same rows in the same order, and the same last
-/// line.
-pub fn same_answer(a: &Answer, b: &Answer) -> bool
-    ensures { IsTrue result ↔ (a.now ≡ b.now) }
+/// Whether a statement's answer is what this reply prints: the same rows in the same order, and the
+/// same last line.
+pub fn is_answer_of(answer: &Answer, reply: &Reply) -> bool
+    ensures { IsTrue result ↔ (answer.now ≡ answer_of reply.now) }
+{
+    same_rows(answer.rows.as_slice(), reply.rows.as_slice()) && same_line(&answer.last, &reply.last)
+}
+
+/// Whether two replies print the same answer, whatever their endings are.
+pub fn same_lines(a: &Reply, b: &Reply) -> bool
+    ensures { IsTrue result ↔ (answer_of a.now ≡ answer_of b.now) }
 {
     same_rows(a.rows.as_slice(), b.rows.as_slice()) && same_line(&a.last, &b.last)
-}
-
-/// Whether two lists of answers are the same, one by one.
-pub fn same_answers(a: &[Answer], b: &[Answer]) -> bool
-    ensures { IsTrue result ↔ (a.now ≡ b.now) }
-{
-    if a.len() != b.len() {
-        return false;
-    }
-    for (i, x) in a.iter().enumerate() {
-        if !same_answer(x, &b[i]) {
-            return false;
-        }
-    }
-    true
-}
-
-/// Whether two lists of replies are the same, one by one, with their endings.
-pub fn same_replies(a: &[Reply], b: &[Reply]) -> bool
-    ensures { IsTrue result ↔ (a.now ≡ b.now) }
-{
-    if a.len() != b.len() {
-        return false;
-    }
-    for (i, x) in a.iter().enumerate() {
-        if !same_reply(x, &b[i]) {
-            return false;
-        }
-    }
-    true
-}
-
-fn same_reply(a: &Reply, b: &Reply) -> bool
-    ensures { IsTrue result ↔ (a.now ≡ b.now) }
-{
-    same_rows(a.rows.as_slice(), b.rows.as_slice())
-        && same_line(&a.last, &b.last)
-        && same_ending(a.ending, b.ending)
-}
-
-fn same_ending(a: Option<Ending>, b: Option<Ending>) -> bool
-    ensures { IsTrue result ↔ (a ≡ b) }
-{
-    match (a, b) {
-        (Some(m), Some(n)) => m == n,
-        (None, None) => true,
-        _ => false,
-    }
 }
 
 fn same_rows(a: &[Row], b: &[Row]) -> bool

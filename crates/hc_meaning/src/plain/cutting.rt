@@ -1,71 +1,109 @@
-// A connection's statements with their replies, cut into transactions.
-ghost use Rattle.std.specs.Prelude.{◌≡◌, ◌^◌, ◌<◌, IfOk, length, option_map};
-ghost use Rattle.hc_meaning.specs.Transactions.{cut, may_end, own, own_if_ended};
+// Scripts with their transcripts, cut into transactions.
+ghost use Rattle.std.specs.Prelude.{◌≡◌, ◌^◌, ◌<◌, All, IfOk, length, option_map};
+ghost use Rattle.hc_meaning.specs.Transactions.{cut, cut_all, cut_one, may_end, own_if_ended};
 
-use crate::{Answer, Statement, Transaction};
-use hc_reply::{Ending, Line, Reply};
+use crate::plain::shown::Shown;
+use crate::{Script, Statement};
+use hc_reply::{Ending, Line, Reply, Transcript};
 use hc_value::NoMemory;
-use sqlite_items::Items;
 use std::alloc::Global;
 
-/// The transactions of a connection, or `None` where the replies are not those of its statements
-/// or an ending is missing or of another form.
-pub fn cut(
+/// All connections' transactions, by connection, or `None` where the transcripts are not those of the
+/// scripts: each connection with a statement has one, in the order of the connections, and no other has
+/// one.
+pub fn cut_all<'a>(
     alloc: Global,
-    conn: u32,
-    statements: &[Statement],
-    replies: Vec<Reply>,
-) -> Result<Option<Vec<Transaction>>, NoMemory>
-    requires { length statements.now < 2 ^ 32 }
+    scripts: &'a [Script],
+    transcripts: &'a [Transcript],
+) -> Result<Option<Vec<Shown<'a>>>, NoMemory>
+    requires { All (λ script. length script.statements < 2 ^ 32) scripts.now }
     ensures { IfOk result (λ found. option_map (λ transactions. transactions.items) found
-        ≡ cut conn 1 statements.now replies.items) }
+        ≡ cut_all scripts.now transcripts.now) }
 {
     let mut transactions = Vec::new(alloc);
     let mut at = 0;
-    for reply in replies {
+    for script in scripts {
+        if script.statements.is_empty() {
+            continue;
+        }
+        let Some(transcript) = transcripts.get(at) else {
+            return Ok(None);
+        };
+        let Some(mut found) = cut_one(alloc, script, transcript)? else {
+            return Ok(None);
+        };
+        transactions.append(&mut found)?;
+        at += 1;
+    }
+    if at < transcripts.len() {
+        return Ok(None);
+    }
+    Ok(Some(transactions))
+}
+
+// A connection's transcript, if it is one of this script.
+fn cut_one<'a>(
+    alloc: Global,
+    script: &'a Script,
+    transcript: &'a Transcript,
+) -> Result<Option<Vec<Shown<'a>>>, NoMemory>
+    requires { length script.now.statements < 2 ^ 32 }
+    ensures { IfOk result (λ found. option_map (λ transactions. transactions.items) found
+        ≡ cut_one script.now transcript.now) }
+{
+    if script.conn != transcript.conn {
+        return Ok(None);
+    }
+    cut(
+        alloc,
+        script.conn,
+        script.statements.as_slice(),
+        transcript.replies.as_slice(),
+    )
+}
+
+/// The transactions of a connection, or `None` where the replies are not those of its statements
+/// or an ending is missing or of another form.
+pub fn cut<'a>(
+    alloc: Global,
+    conn: u32,
+    statements: &'a [Statement],
+    replies: &'a [Reply],
+) -> Result<Option<Vec<Shown<'a>>>, NoMemory>
+    requires { length statements.now < 2 ^ 32 }
+    ensures { IfOk result (λ found. option_map (λ transactions. transactions.items) found
+        ≡ cut conn 1 statements.now replies.now) }
+{
+    let mut transactions = Vec::new(alloc);
+    for (at, reply) in replies.iter().enumerate() {
         let Some(statement) = statements.get(at) else {
             return Ok(None);
         };
-        let Some(transaction) = own_if_ended(alloc, conn, at as u32 + 1, statement, reply)? else {
+        let Some(transaction) = own_if_ended(conn, at as u32 + 1, statement, reply) else {
             return Ok(None);
         };
         transactions.push(transaction)?;
-        at += 1;
     }
-    if at < statements.len() {
+    if replies.len() < statements.len() {
         return Ok(None);
     }
     Ok(Some(transactions))
 }
 
 // The statement as a transaction of its own, if its reply has an ending that it may have.
-fn own_if_ended(
-    alloc: Global,
+fn own_if_ended<'a>(
     conn: u32,
     ordinal: u32,
-    statement: &Statement,
-    reply: Reply,
-) -> Result<Option<Transaction>, NoMemory>
-    ensures { IfOk result (λ transaction.
-        transaction ≡ own_if_ended conn ordinal statement.now reply reply.ending) }
+    statement: &'a Statement,
+    reply: &'a Reply,
+) -> Option<Shown<'a>>
+    ensures { result ≡ own_if_ended conn ordinal statement.now reply.now reply.now.ending }
 {
-    let Reply { rows, last, ending } = reply;
-    let Some(ending) = ending else {
-        return Ok(None);
-    };
-    if !may_end(&last, ending) {
-        return Ok(None);
+    let ending = reply.ending?;
+    if !may_end(&reply.last, ending) {
+        return None;
     }
-    let statements = Items::from_slice(alloc, &[*statement])?;
-    let mut answers = Items::new(alloc);
-    answers.push(Answer { rows, last })?;
-    Ok(Some(Transaction {
-        conn,
-        ordinal,
-        statements,
-        answers,
-        ending,
-    }))
+    Some(Shown::own(conn, ordinal, statement, reply, ending))
 }
 
 fn may_end(last: &Line, ending: Ending) -> bool

@@ -1,26 +1,55 @@
-// Whether replies are right for the setup script alone.
-ghost use Rattle.std.specs.Prelude.{◌^◌, ◌<◌, ◌↔◌, [], ◌∷◌, IfOk, IsTrue, length};
-ghost use Rattle.hc_meaning.specs.Played.{transcripts_of};
+// Whether transcripts are a right run of scripts.
+ghost use Rattle.std.specs.Prelude.{◌↔◌, ◌^◌, ◌<◌, All, IfOk, IsTrue, length, map};
+ghost use Rattle.std.specs.List.Sorted.{IsStrictlyIncreasing};
 ghost use Rattle.hc_meaning.specs.RightOutput.{IsRightRun};
 
-use crate::Statement;
-use crate::plain::comparison::same_replies;
-use crate::plain::serial::played;
-use hc_reply::Reply;
+use crate::Script;
+use crate::plain::answers::{is_legal, others_are_read};
+use crate::plain::commits::history;
+use crate::plain::cutting::cut_all;
+use crate::plain::order::is_in_order;
+use hc_reply::Transcript;
 use hc_value::NoMemory;
 use std::alloc::Global;
 
-/// Whether these replies are a right run of the setup script alone. There is one right run, in which
-/// the statements run one after another, so the replies are compared with those of that run.
+/// Whether these transcripts are a right run of the scripts, for any number of connections: by the
+/// parts of the definition, one after another.
 pub fn is_right_run(
     alloc: Global,
-    statements: &[Statement],
-    replies: &[Reply],
+    scripts: &[Script],
+    transcripts: &[Transcript],
 ) -> Result<bool, NoMemory>
-    requires { length statements.now < 2 ^ 32 }
-    ensures { IfOk result (λ right. IsTrue right
-        ↔ IsRightRun (record { conn = 0; statements = statements.now } ∷ []) (transcripts_of 0 replies.now)) }
+    requires { All (λ script. length script.statements < 2 ^ 32) scripts.now }
+    ensures { IfOk result (λ right. IsTrue right ↔ IsRightRun scripts.now transcripts.now) }
 {
-    let serial = played(alloc, statements)?;
-    Ok(same_replies(replies, serial.as_slice()))
+    if !ascend(scripts) {
+        return Ok(false);
+    }
+    let Some(found) = cut_all(alloc, scripts, transcripts)? else {
+        return Ok(false);
+    };
+    let transactions = found.as_slice();
+    let Some(committed) = history(alloc, transactions)? else {
+        return Ok(false);
+    };
+    let history = committed.as_slice();
+    if !is_legal(alloc, history)? {
+        return Ok(false);
+    }
+    if !others_are_read(alloc, transactions, history)? {
+        return Ok(false);
+    }
+    Ok(is_in_order(transactions, history))
+}
+
+/// Whether the scripts are of different connections, by number.
+pub fn ascend(scripts: &[Script]) -> bool
+    ensures { IsTrue result ↔ IsStrictlyIncreasing (map (λ script. script.conn) scripts.now) }
+{
+    for i in 1..scripts.len() {
+        if scripts[i - 1].conn >= scripts[i].conn {
+            return false;
+        }
+    }
+    true
 }

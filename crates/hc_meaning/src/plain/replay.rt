@@ -2,15 +2,15 @@
 ghost use Rattle.std.specs.Prelude.{◌≡◌, IfOk};
 ghost use Rattle.hc_meaning.specs.History.{state};
 
-use crate::plain::execution;
-use crate::{Db, Ran, Transaction};
+use crate::plain::shown::Shown;
+use crate::{Db, Ran};
 use hc_value::NoMemory;
 use sqlite_items::Items;
 use std::alloc::Global;
 
 /// The database after the first k transactions of a history, run one after another from the empty
 /// one.
-pub fn state(alloc: Global, history: &[Transaction], k: usize) -> Result<Db, NoMemory>
+pub fn state(alloc: Global, history: &[Shown<'_>], k: usize) -> Result<Db, NoMemory>
     ensures { IfOk result (λ db. db ≡ state history.now k) }
 {
     let first = &history[..k.min(history.len())];
@@ -19,7 +19,7 @@ pub fn state(alloc: Global, history: &[Transaction], k: usize) -> Result<Db, NoM
         let Ran {
             answers: _,
             db: next,
-        } = execution::run_all(alloc, db.as_slice(), transaction.statements.as_slice())?;
+        } = transaction.run_on(alloc, db.as_slice())?;
         db = next;
     }
     Ok(db)
