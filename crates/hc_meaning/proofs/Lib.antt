@@ -24,3 +24,4 @@ pub mod Statements
 mod Steps
 mod Unique
 mod Walk
+mod Worked

@@ -1,4 +1,5 @@
 pub mod Database
+pub mod Examples
 pub mod Front
 pub mod History
 pub mod Input

@@ -8,10 +8,11 @@
 //! Beside them stands `plain`, a slow program that computes the functions among them and judges runs
 //! of any number of connections, so that the definitions can be tried on small inputs. Only tests use
 //! it.
-//! `laws` states what follows from the definitions alone.
+//! `laws` states what follows from the definitions alone, and `examples` what they say of given bytes.
 #![tactic(auto)]
 
 mod answer;
+pub mod examples;
 pub mod laws;
 pub mod plain;
 mod statement;
