@@ -6,8 +6,8 @@ use Rattle.hc_core.specs.Account.{Txn, Refusal, HoldsKey, Stands, StandsAs}
 use Rattle.hc_core.specs.Versions.{PutAt}
 use Rattle.hc_core.specs.Sound.{TxnIsSound, NamesWriter, ComesAfterEach, AreInOrder, AreSound}
 use Rattle.hc_core.specs.declared.cells.Write.{Write}
-use Rattle.hc_core.proofs.Lookups.{but-same, but-other, new_here, rest_here, others_here, old_there, each_old, each_either}
-use Rattle.hc_core.proofs.Agreeing.{AgreeUpto, cells-agree, none-agree}
+use Rattle.hc_core.proofs.Lookups.{each_but, new_here, rest_here, others_here, old_there, each_old, each_either}
+use Rattle.hc_core.proofs.Agreeing.{AgreeUpto, sound-agree}
 
 -- what others rest on: its place, what it put where it is decided, and who it is where it has put a key
 pub record Keeps (t new : Txn) : Type 0 where
@@ -70,31 +70,18 @@ module _ (size : ℕ) (log : ℕ → ℕ) (of : ℕ → List Txn) (i : ℕ) (t n
       → (v.place ≡ 0 → new.place ≡ 0 → (key : List ℕ) → Stands v key → Stands new key → i ≡ j)
       → (v.place ≡ 0 → (key : List ℕ) → Stands v key → Stands new key → new.place ≤ v.snapshot)
       → TxnIsSound size now j v
-  carried j v h alone newest = record {
-    snapshot = h.snapshot;
-    undrawn = h.undrawn;
-    place = h.place;
-    rolled_back = h.rolled_back;
-    once = h.once;
-    listed = h.listed;
-    alone = λ undecided k u key among u_undecided stands u_stands.
-        each_either of i t rest is new (λ k u. u.place ≡ 0 → Stands u key → k ≡ j)
-        (λ is_undecided is_standing. alone undecided is_undecided key stands is_standing)
-        (λ k u there is_undecided is_standing. h.alone undecided k u key there is_undecided stands is_standing)
-        k u among u_undecided u_stands;
-    newest = λ undecided k u key among stands u_stands.
-        each_either of i t rest is new (λ k u. Stands u key → u.place ≤ v.snapshot)
-        (λ is_standing. newest undecided key stands is_standing)
-        (λ k u there is_standing. h.newest undecided k u key there stands is_standing)
-        k u among u_stands;
-    reads = λ read among. cells-agree size of now agree v.snapshot read.part read.cells h.snapshot (h.reads read among);
-    proposed = h.proposed;
-    chosen = h.chosen;
-    checked = λ part among key inside. none-agree size of now agree v.snapshot v.proposed key h.proposed (h.checked part among key inside);
-    unchanged = λ found among. let u = h.unchanged found among in (u.0, λ key inside. none-agree size of now agree v.snapshot found.number key u.0 (u.1 key inside));
-    first = λ placed key has. none-agree size of now agree v.snapshot v.place key (omega (arith, (h.place placed).1)) (h.first placed key has);
-    refusals = λ r among. named j v.snapshot r (h.refusals r among);
-  }
+  carried j v h alone newest = sound-agree size size of now agree (omega arith) j v h
+      (λ undecided k u key among u_undecided stands u_stands.
+      each_either of i t rest is new (λ k u. u.place ≡ 0 → Stands u key → k ≡ j)
+      (λ is_undecided is_standing. alone undecided is_undecided key stands is_standing)
+      (λ k u there is_undecided is_standing. h.alone undecided k u key there is_undecided stands is_standing)
+      k u among u_undecided u_stands)
+      (λ undecided k u key among stands u_stands.
+      each_either of i t rest is new (λ k u. Stands u key → u.place ≤ v.snapshot)
+      (λ is_standing. newest undecided key stands is_standing)
+      (λ k u there is_standing. h.newest undecided k u key there stands is_standing)
+      k u among u_stands)
+      (λ r among. named j v.snapshot r (h.refusals r among))
 
   module _ (new_sound : TxnIsSound size of i new) where
     old_carried : (j : ℕ) (v : Txn) → Among v (of j) → TxnIsSound size now j v
@@ -135,11 +122,7 @@ module _ (size : ℕ) (log : ℕ → ℕ) (of : ℕ → List Txn) (i : ℕ) (t n
           (λ k v there drawn same. s.ids j k u v u_there there drawn same)
           k v v_among)
           j u among;
-      in_order = λ j.
-          ⊎_elim (λ (same : i ≡ j). subst (λ k. AreInOrder (now k)) same
-          (subst AreInOrder (sym (but-same of i (new ∷ rest))) (comes_after, (subst AreInOrder is (s.in_order i)).1)))
-          (λ differ. subst AreInOrder (sym (but-other of i j (new ∷ rest) differ)) (s.in_order j))
-          (cases_eq i j);
+      in_order = each_but of i (new ∷ rest) (λ j ts. AreInOrder ts) (comes_after, (subst AreInOrder is (s.in_order i)).1) (λ j differ. s.in_order j);
       each = each_either of i t rest is new (λ j u. TxnIsSound size now j u)
           (carried i new new_sound (λ undecided is_undecided key stands is_standing. refl) (λ undecided key stands is_standing. omega (arith, undecided)))
           old_carried;

@@ -10,6 +10,7 @@ use Rattle.hc_core.specs.declared.outcome.Met.{Met as MetRecord}
 use Rattle.hc_core.specs.declared.outcome.Outcome.{Outcome}
 use Rattle.hc_core.specs.declared.outcome.Outcome.TheVariants.{Met}
 use Rattle.hc_core.specs.declared.running.Running.{Running}
+use Rattle.hc_core.proofs.Matching.{matches_refused}
 
 -- the transactions after an entry
 pub txns_entered : (after account : List Entry) (event same : Event) (outcome : Outcome)
@@ -62,35 +63,11 @@ kept_open r new kept account after event same outcome f last is h top entered fo
 pub kept_refused : (event : Event) (met : MetRecord) (r : Running) (ts : List Txn) → IsPutOrCheck event → WhenOpen ts (Matches r)
     → WhenOpen (after_entry event (Met met) ts) (Matches r) × (greatest_ord (after_entry event (Met met) ts) ≡ greatest_ord ts)
 kept_refused (Put conn key rec) met r ts p h = (
-  when_changed (after_put key rec (Met met)) (Matches r) (Matches r) ts h (λ t e k. (
-    e,
-    record {
-      id = k.id;
-      ord = k.ord;
-      snapshot = k.snapshot;
-      proposed = k.proposed;
-      place = k.place;
-      reads = k.reads;
-      checked = k.checked;
-      writes = k.writes;
-    },
-  )),
+  when_changed (after_put key rec (Met met)) (Matches r) (Matches r) ts h (λ t e k. (e, matches_refused r t (record { by_check = false; met = met } ∷ t.refusals) k)),
   greatest_kept (after_put key rec (Met met)) ts (λ t. refl),
 )
 kept_refused (Check conn from upto) met r ts p h = (
-  when_changed (after_check (part_of from upto) (Met met)) (Matches r) (Matches r) ts h (λ t e k. (
-    e,
-    record {
-      id = k.id;
-      ord = k.ord;
-      snapshot = k.snapshot;
-      proposed = k.proposed;
-      place = k.place;
-      reads = k.reads;
-      checked = k.checked;
-      writes = k.writes;
-    },
-  )),
+  when_changed (after_check (part_of from upto) (Met met)) (Matches r) (Matches r) ts h (λ t e k. (e, matches_refused r t (record { by_check = true; met = met } ∷ t.refusals) k)),
   greatest_kept (after_check (part_of from upto) (Met met)) ts (λ t. refl),
 )
 kept_refused (Begin conn) met r ts p h = absurd p

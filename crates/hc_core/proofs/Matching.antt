@@ -3,8 +3,8 @@ use Rattle.std.proofs.Common.{◌≡◌, ◌≢◌, ℕ, List, [], ◌∷◌, �
 use Rattle.std.specs.Str.{bytes_eq}
 use Rattle.hc_range.specs.declared.range.Range.{Range}
 use Rattle.hc_range.specs.Ranges.{InAny, InRange}
-use Rattle.hc_core.specs.Account.{Txn, PartRead, HasRead, after_read, after_put, after_check, after_decide, after_unput, without}
-use Rattle.hc_core.specs.Running.{Matches}
+use Rattle.hc_core.specs.Account.{Txn, PartRead, Refusal, HasRead, after_read, after_put, after_check, after_decide, after_unput, without}
+use Rattle.hc_core.specs.Running.{HaveSameWrites, Matches}
 use Rattle.hc_core.specs.declared.cells.Write.{Write}
 use Rattle.hc_core.specs.declared.cells.Part.{Part}
 use Rattle.hc_core.specs.declared.outcome.Outcome.TheVariants.{Done, Cells, Decided}
@@ -69,9 +69,11 @@ matches_proposal r new number t is h =
       writes = h.writes;
     })
 
-pub matches_put : (r : Running) (kept : Vec Write Global) (w : Write) (t : Txn) → kept.items ≡ r.writes.items ++ w ∷ [] → Matches r t
-    → Matches (record r { writes = kept }) (after_put w.key w.rec Done t)
-matches_put r kept w t e h = record {
+-- other writes, and what stands put changed with them; what was put counts for nothing here
+matches_writes : (r : Running) (kept : Vec Write Global) (t : Txn) (standing puts : List Write)
+    → (t.place ≡ 0 → HaveSameWrites kept.items standing) → Matches r t
+    → Matches (record r { writes = kept }) (record t { standing = standing; puts = puts })
+matches_writes r kept t standing puts same h = record {
   id = h.id;
   ord = h.ord;
   snapshot = h.snapshot;
@@ -79,12 +81,18 @@ matches_put r kept w t e h = record {
   place = h.place;
   reads = h.reads;
   checked = h.checked;
-  writes = λ undecided x. let old = h.writes undecided x in let push = among_push x w r.writes.items in
-      rw e (
-        (λ a. elim (push.0 a) [ inl s ↦ inl s | inr b ↦ inr (old.0 b) ]),
-        λ a. push.1 (elim a [ inl s ↦ inl s | inr b ↦ inr (old.1 b) ]),
-      );
+  writes = same;
 }
+
+pub matches_put : (r : Running) (kept : Vec Write Global) (w : Write) (t : Txn) → kept.items ≡ r.writes.items ++ w ∷ [] → Matches r t
+    → Matches (record r { writes = kept }) (after_put w.key w.rec Done t)
+matches_put r kept w t e h = matches_writes r kept t (w ∷ t.standing) (w ∷ t.puts)
+    (λ undecided x. let old = h.writes undecided x in let push = among_push x w r.writes.items in
+    rw e (
+      (λ a. elim (push.0 a) [ inl s ↦ inl s | inr b ↦ inr (old.0 b) ]),
+      λ a. push.1 (elim a [ inl s ↦ inl s | inr b ↦ inr (old.1 b) ]),
+    ))
+    h
 
 pub matches_decided : (r : Running) (kept : Vec Write Global) (number : ℕ) (t : Txn) → number ≢ 0 → Matches r t
     → Matches (record r { writes = kept; place = number }) (after_decide (Decided (record { 0 = number })) t)
@@ -101,24 +109,21 @@ matches_decided r kept number t some h = record {
 
 pub matches_unput : (r : Running) (kept : Vec Write Global) (key : List ℕ) (t : Txn) → kept.items ≡ without key r.writes.items → Matches r t
     → Matches (record r { writes = kept }) (after_unput key Done t)
-matches_unput r kept key t e h = record {
-  id = h.id;
-  ord = h.ord;
-  snapshot = h.snapshot;
-  proposed = h.proposed;
-  place = h.place;
-  reads = h.reads;
-  checked = h.checked;
-  writes = λ undecided x. let old = h.writes undecided x in
-      let here = among_filter (λ (w : Write). not (bytes_eq w.key key)) x r.writes.items in
-      let there = among_filter (λ (w : Write). not (bytes_eq w.key key)) x t.standing in
-      rw e ((λ a. there.1 (old.0 (here.0 a).0, (here.0 a).1)), λ a. here.1 (old.1 (there.0 a).0, (there.0 a).1));
-}
+matches_unput r kept key t e h = matches_writes r kept t (without key t.standing) t.puts
+    (λ undecided x. let old = h.writes undecided x in
+    let here = among_filter (λ (w : Write). not (bytes_eq w.key key)) x r.writes.items in
+    let there = among_filter (λ (w : Write). not (bytes_eq w.key key)) x t.standing in
+    rw e ((λ a. there.1 (old.0 (here.0 a).0, (here.0 a).1)), λ a. here.1 (old.1 (there.0 a).0, (there.0 a).1)))
+    h
 
 -- a vector with the same writes will do
 pub matches_same : (r : Running) (kept : Vec Write Global) (t : Txn) → kept.items ≡ r.writes.items → Matches r t
     → Matches (record r { writes = kept }) t
-matches_same r kept t e h = record {
+matches_same r kept t e h = matches_writes r kept t t.standing t.puts (λ undecided. rw e (h.writes undecided)) h
+
+-- refusals count for nothing here
+pub matches_refused : (r : Running) (t : Txn) (refusals : List Refusal) → Matches r t → Matches r (record t { refusals = refusals })
+matches_refused r t refusals h = record {
   id = h.id;
   ord = h.ord;
   snapshot = h.snapshot;
@@ -126,5 +131,5 @@ matches_same r kept t e h = record {
   place = h.place;
   reads = h.reads;
   checked = h.checked;
-  writes = λ undecided. rw e (h.writes undecided);
+  writes = h.writes;
 }

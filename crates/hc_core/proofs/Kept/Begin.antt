@@ -1,12 +1,12 @@
 -- A transaction begins where none is open: its snapshot is all that is committed.
-use Rattle.std.proofs.Common.{◌≡◌, ◌≢◌, ◌∙◌, ⊎_elim, refl, sym, ap, subst, ℕ, ◌+◌, ◌≤◌, true, List, [], ◌∷◌, Option, arith}
+use Rattle.std.proofs.Common.{◌≡◌, ◌≢◌, ◌∙◌, ⊎_elim, refl, ap, ℕ, ◌+◌, ◌≤◌, true, List, [], ◌∷◌, Option, arith}
 use Rattle.std.proofs.lemmas.Bool.{cases_eq}
 use Rattle.hc_core.specs.Lookup.{Among, but}
 use Rattle.hc_core.specs.Account.{Txn, Stands, StandsAs, IsIdle, begun_at}
 use Rattle.hc_core.specs.Versions.{PutAt}
 use Rattle.hc_core.specs.Sound.{AreSound, TxnIsSound, AreInOrder, ComesAfterEach}
-use Rattle.hc_core.proofs.Lookups.{but-same, but-other, each_grown, grown_here}
-use Rattle.hc_core.proofs.Agreeing.{AgreeUpto, cells-agree, none-agree}
+use Rattle.hc_core.proofs.Lookups.{each_but, each_grown, grown_here}
+use Rattle.hc_core.proofs.Agreeing.{AgreeUpto, sound-agree}
 use Rattle.hc_core.proofs.Ordered.{after_each, each_after}
 
 -- where no transaction is open, each has ended
@@ -35,31 +35,18 @@ module _ {size : ℕ} {log : ℕ → ℕ} {of : ℕ → List Txn} (s : AreSound 
   agree = record { there = λ c key rec within. put_there c key rec; back = λ c key rec within. put_back c key rec }
 
   carried : (j : ℕ) (v : Txn) → TxnIsSound size of j v → TxnIsSound size now j v
-  carried j v h = record {
-    snapshot = h.snapshot;
-    undrawn = h.undrawn;
-    place = h.place;
-    rolled_back = h.rolled_back;
-    once = h.once;
-    listed = h.listed;
-    alone = λ undecided k u key among u_undecided stands u_stands.
-        each_grown of i new (λ k u. u.place ≡ 0 → Stands u key → k ≡ j)
-        (λ is_undecided is_standing. absurd is_standing.1)
-        (λ k u there is_undecided is_standing. h.alone undecided k u key there is_undecided stands is_standing)
-        k u among u_undecided u_stands;
-    newest = λ undecided k u key among stands u_stands.
-        each_grown of i new (λ k u. Stands u key → u.place ≤ v.snapshot)
-        (λ is_standing. absurd is_standing.1)
-        (λ k u there is_standing. h.newest undecided k u key there stands is_standing)
-        k u among u_stands;
-    reads = λ read among. cells-agree size of now agree v.snapshot read.part read.cells h.snapshot (h.reads read among);
-    proposed = h.proposed;
-    chosen = h.chosen;
-    checked = λ part among key inside. none-agree size of now agree v.snapshot v.proposed key h.proposed (h.checked part among key inside);
-    unchanged = λ found among. let u = h.unchanged found among in (u.0, λ key inside. none-agree size of now agree v.snapshot found.number key u.0 (u.1 key inside));
-    first = λ placed key has. none-agree size of now agree v.snapshot v.place key (omega (arith, (h.place placed).1)) (h.first placed key has);
-    refusals = λ r among. let n = h.refusals r among in (n.0, n.1, grown_here of i new n.0 n.1 n.2, n.3, n.4, n.5, n.6, n.7, n.8, n.9);
-  }
+  carried j v h = sound-agree size size of now agree (omega arith) j v h
+      (λ undecided k u key among u_undecided stands u_stands.
+      each_grown of i new (λ k u. u.place ≡ 0 → Stands u key → k ≡ j)
+      (λ is_undecided is_standing. absurd is_standing.1)
+      (λ k u there is_undecided is_standing. h.alone undecided k u key there is_undecided stands is_standing)
+      k u among u_undecided u_stands)
+      (λ undecided k u key among stands u_stands.
+      each_grown of i new (λ k u. Stands u key → u.place ≤ v.snapshot)
+      (λ is_standing. absurd is_standing.1)
+      (λ k u there is_standing. h.newest undecided k u key there stands is_standing)
+      k u among u_stands)
+      (λ r among. let n = h.refusals r among in (n.0, n.1, grown_here of i new n.0 n.1 n.2, n.3, n.4, n.5, n.6, n.7, n.8, n.9))
 
   new_sound : TxnIsSound size now i new
   new_sound = record {
@@ -101,9 +88,6 @@ module _ {size : ℕ} {log : ℕ → ℕ} {of : ℕ → List Txn} (s : AreSound 
         (λ j u there drawn same.
         each_grown of i new (λ k v. u.id ≡ v.id → j ≡ k) (λ none. absurd (drawn none)) (λ k v v_there equal. s.ids j k u v there v_there drawn equal) k v v_among same)
         j u among;
-    in_order = λ j.
-        ⊎_elim (λ (same : i ≡ j). subst (λ k. AreInOrder (now k)) same (subst AreInOrder (sym (but-same of i (new ∷ of i))) (comes_after, s.in_order i)))
-        (λ differ. subst AreInOrder (sym (but-other of i j (new ∷ of i) differ)) (s.in_order j))
-        (cases_eq i j);
+    in_order = each_but of i (new ∷ of i) (λ j ts. AreInOrder ts) (comes_after, s.in_order i) (λ j differ. s.in_order j);
     each = each_grown of i new (TxnIsSound size now) new_sound (λ j u there. carried j u (s.each j u there));
   }

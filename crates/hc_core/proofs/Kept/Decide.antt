@@ -1,14 +1,14 @@
 -- A transaction takes the next commit number: all that it read was checked for it, so nobody put that since its snapshot.
 use Rattle.std.proofs.Common.{◌≡◌, ◌≢◌, ◌∙◌, inl, inr, ⊎_elim, refl, sym, subst, ℕ, ◌+◌, ◌<◌, ◌≤◌, true, List, [], ◌∷◌, Option, arith}
-use Rattle.std.proofs.lemmas.Bool.{cases_eq, cases_lt}
+use Rattle.std.proofs.lemmas.Bool.{cases_lt}
 use Rattle.hc_range.specs.declared.range.Range.{Range}
 use Rattle.hc_range.specs.Ranges.{InRange, InAny, Includes}
 use Rattle.hc_core.specs.Lookup.{Among, but}
 use Rattle.hc_core.specs.Account.{Txn, PartRead, Refusal, HoldsKey, Stands, StandsAs, HasRead}
 use Rattle.hc_core.specs.Versions.{PutAt}
 use Rattle.hc_core.specs.Sound.{AreSound, TxnIsSound, AreInOrder, NamesWriter, NonePutBetween}
-use Rattle.hc_core.proofs.Lookups.{but-same, but-other, new_here, rest_here, others_here, each_new, each_old, old_there, rest_there}
-use Rattle.hc_core.proofs.Agreeing.{AgreeUpto, cells-agree, none-agree}
+use Rattle.hc_core.proofs.Lookups.{each_but, but-same, but-other, new_here, rest_here, others_here, each_new, each_old, old_there, rest_there}
+use Rattle.hc_core.proofs.Agreeing.{AgreeUpto, cells-agree, none-agree, sound-agree}
 use Rattle.hc_core.proofs.Ordered.{after_each, newest_after, distinct_with}
 use Rattle.hc_core.proofs.Standing.{nothing_stands}
 use Rattle.hc_core.proofs.Kept.Same.{same_after}
@@ -63,33 +63,20 @@ module _ {size : ℕ} {log : ℕ → ℕ} {of : ℕ → List Txn} (s : AreSound 
 
   -- another transaction stays sound, since no undecided one has a key that stands put here
   carried : (j : ℕ) (v : Txn) → TxnIsSound size of j v → (v.place ≡ 0 → (key : List ℕ) → Stands v key → Stands t key → ⊥) → TxnIsSound (size + 1) now j v
-  carried j v g apart = record {
-    snapshot = omega (arith, g.snapshot);
-    undrawn = g.undrawn;
-    place = λ placed. let p = g.place placed in (p.0, omega (arith, p.1));
-    rolled_back = g.rolled_back;
-    once = g.once;
-    listed = g.listed;
-    alone = λ v_undecided k u key among u_undecided stands u_stands.
-        each_new of i new rest (λ k u. u.place ≡ 0 → Stands u key → k ≡ j)
-        (λ is_undecided is_standing. absurd (omega (arith, is_undecided)))
-        (λ u there is_undecided is_standing. g.alone v_undecided i u key (rest_there of i t rest is u there) is_undecided stands is_standing)
-        (λ k u differ there is_undecided is_standing. g.alone v_undecided k u key there is_undecided stands is_standing)
-        k u among u_undecided u_stands;
-    newest = λ v_undecided k u key among stands u_stands.
-        each_new of i new rest (λ k u. Stands u key → u.place ≤ v.snapshot)
-        (λ is_standing. absurd (apart v_undecided key stands is_standing))
-        (λ u there is_standing. g.newest v_undecided i u key (rest_there of i t rest is u there) stands is_standing)
-        (λ k u differ there is_standing. g.newest v_undecided k u key there stands is_standing)
-        k u among u_stands;
-    reads = λ read among. cells-agree size of now agree v.snapshot read.part read.cells g.snapshot (g.reads read among);
-    proposed = omega (arith, g.proposed);
-    chosen = g.chosen;
-    checked = λ part among key inside. none-agree size of now agree v.snapshot v.proposed key g.proposed (g.checked part among key inside);
-    unchanged = λ found among. let u = g.unchanged found among in (omega (arith, u.0), λ key inside. none-agree size of now agree v.snapshot found.number key u.0 (u.1 key inside));
-    first = λ placed key has. none-agree size of now agree v.snapshot v.place key (omega (arith, (g.place placed).1)) (g.first placed key has);
-    refusals = λ r among. named j v.snapshot r g.snapshot (g.refusals r among);
-  }
+  carried j v g apart = sound-agree size (size + 1) of now agree (omega arith) j v g
+      (λ v_undecided k u key among u_undecided stands u_stands.
+      each_new of i new rest (λ k u. u.place ≡ 0 → Stands u key → k ≡ j)
+      (λ is_undecided is_standing. absurd (omega (arith, is_undecided)))
+      (λ u there is_undecided is_standing. g.alone v_undecided i u key (rest_there of i t rest is u there) is_undecided stands is_standing)
+      (λ k u differ there is_undecided is_standing. g.alone v_undecided k u key there is_undecided stands is_standing)
+      k u among u_undecided u_stands)
+      (λ v_undecided k u key among stands u_stands.
+      each_new of i new rest (λ k u. Stands u key → u.place ≤ v.snapshot)
+      (λ is_standing. absurd (apart v_undecided key stands is_standing))
+      (λ u there is_standing. g.newest v_undecided i u key (rest_there of i t rest is u there) stands is_standing)
+      (λ k u differ there is_standing. g.newest v_undecided k u key there stands is_standing)
+      k u among u_stands)
+      (λ r among. named j v.snapshot r g.snapshot (g.refusals r among))
 
   -- what it read was checked for its number
   none_read : (key : List ℕ) → HasRead t key → NonePutBetween of t.snapshot (size + 1) key
@@ -162,11 +149,9 @@ module _ {size : ℕ} {log : ℕ → ℕ} {of : ℕ → List Txn} (s : AreSound 
         let a = was j u among in
         let b = was k v v_among in
         s.ids j k a.0 b.0 a.1 b.1 (λ none. u_drawn (a.2 ∙ none)) (sym a.2 ∙ (same ∙ b.2));
-    in_order = λ j.
-        ⊎_elim (λ (here : i ≡ j). subst (λ k. AreInOrder (now k)) here
-        (subst AreInOrder (sym (but-same of i (new ∷ rest))) (same_after t new rest (record { id = refl; ord = refl; snapshot = refl }) (newest_after s i t rest is), (subst AreInOrder is (s.in_order i)).1)))
-        (λ differ. subst AreInOrder (sym (but-other of i j (new ∷ rest) differ)) (s.in_order j))
-        (cases_eq i j);
+    in_order = each_but of i (new ∷ rest) (λ j ts. AreInOrder ts)
+        (same_after t new rest (record { id = refl; ord = refl; snapshot = refl }) (newest_after s i t rest is), (subst AreInOrder is (s.in_order i)).1)
+        (λ j differ. s.in_order j);
     each = each_new of i new rest (TxnIsSound (size + 1) now) new_sound
         (λ u there. let g = s.each i u (rest_there of i t rest is u there) in
         carried i u g (λ u_undecided key stands t_stands. nothing_stands u (g.rolled_back (after_each t u rest (newest_after s i t rest is) there).ended u_undecided) key stands))

@@ -25,51 +25,45 @@ index-requires c =
       (c.may_decide.ensures.0 c.if-not-may_decide.false).0,
     )
 
+-- the number is lost to who has it in the log
+lost : (c : goal.After-self-1)
+    → Answers (machine_of c.self.inside.drawn c.self.inside.log.items c.self.inside.conns.items) (Decide c.args.conn)
+    (Lost (record { cid = record { 0 = c.in-Some.running.now.proposed }; other = record { 0 = c.index.result.now.tid } }))
+lost c =
+    let m = machine_of c.self.inside.drawn c.self.inside.log.items c.self.inside.conns.items in
+    let found = found_open m _ c.args.conn c.in-Some.running.now (Matches c.in-Some.running.now) c.self.view_is c.in-Some.ensures (λ t h. h) in
+    let may = c.may_decide.ensures.0 c.if-not-may_decide.false in
+    let not_next : c.in-Some.running.now.proposed ≡ length (map (λ (commit : Commit). commit.tid) c.self.inside.log.items) + 1 → ⊥ =
+    λ next. c.if-number-len.true (next ∙ ap (λ n. n + 1) (log_length c.self.inside.log ∙ sym c.len.ensures)) in
+    let place : c.in-Some.running.now.proposed - 1 < length c.self.inside.log.items = omega (
+      arith,
+      proposed_within m c.args.conn c.in-Some.running.now c.self.invariant.sound found,
+      c.if-number-len.true,
+      c.len.ensures,
+      log_length c.self.inside.log,
+      c.self.inside.log.ok.0,
+      may.0,
+    ) in
+    lost_to m c.args.conn c.in-Some.running.now c.index.result.now.tid found may not_next
+    (log_at _ _ c.index.result.now place ∙ ap (λ (commit : Commit). commit.tid) (sym c.index.ensures))
+
 -- the number is another's
 pub invariant_of-self : goal.invariant_of-self
 invariant_of-self c =
     let m = machine_of c.self.inside.drawn c.self.inside.log.items c.self.inside.conns.items in
     let found = found_open m _ c.args.conn c.in-Some.running.now (Matches c.in-Some.running.now) c.self.view_is c.in-Some.ensures (λ t h. h) in
     let within = open_in_range m c.args.conn _ found in
-    let may = c.may_decide.ensures.0 c.if-not-may_decide.false in
-    let not_next : c.in-Some.running.now.proposed ≡ length (map (λ (commit : Commit). commit.tid) c.self.inside.log.items) + 1 → ⊥ =
-    λ next. c.if-number-len.true (next ∙ ap (λ n. n + 1) (log_length c.self.inside.log ∙ sym c.len.ensures)) in
-    let place : c.in-Some.running.now.proposed - 1 < length c.self.inside.log.items = omega (
-      arith,
-      proposed_within m c.args.conn c.in-Some.running.now c.self.invariant.sound found,
-      c.if-number-len.true,
-      c.len.ensures,
-      log_length c.self.inside.log,
-      c.self.inside.log.ok.0,
-      may.0,
-    ) in
     kept_changed _ _ _ _ _ _ _ _ (entry_is _ _ _ _ _ _ _ _ c.lose.ensures.account c.index_mut.ensures.value within c.lose.ensures.outcome) c.requires.event
     _ (after_decide (Lost (record { cid = record { 0 = c.in-Some.running.now.proposed }; other = record { 0 = c.index.result.now.tid } }))) c.self.invariant
-    (lost_to m c.args.conn c.in-Some.running.now c.index.result.now.tid found may not_next
-    (log_at _ _ c.index.result.now place ∙ ap (λ (commit : Commit). commit.tid) (sym c.index.ensures)))
+    (lost c)
     refl (λ ts. refl)
     (when_map _ _ _ (λ t h. settles_same t _ refl refl refl refl) found)
 
 pub returns-then-number-len-clause-answer : goal.returns-then-number-len-clause-answer
 returns-then-number-len-clause-answer c =
     let m = machine_of c.self.inside.drawn c.self.inside.log.items c.self.inside.conns.items in
-    let found = found_open m _ c.args.conn c.in-Some.running.now (Matches c.in-Some.running.now) c.self.view_is c.in-Some.ensures (λ t h. h) in
-    let may = c.may_decide.ensures.0 c.if-not-may_decide.false in
-    let not_next : c.in-Some.running.now.proposed ≡ length (map (λ (commit : Commit). commit.tid) c.self.inside.log.items) + 1 → ⊥ =
-    λ next. c.if-number-len.true (next ∙ ap (λ n. n + 1) (log_length c.self.inside.log ∙ sym c.len.ensures)) in
-    let place : c.in-Some.running.now.proposed - 1 < length c.self.inside.log.items = omega (
-      arith,
-      proposed_within m c.args.conn c.in-Some.running.now c.self.invariant.sound found,
-      c.if-number-len.true,
-      c.len.ensures,
-      log_length c.self.inside.log,
-      c.self.inside.log.ok.0,
-      may.0,
-    ) in
     subst (λ (n : Machine). Answers n (Decide c.args.conn) c.lose.result) c.self.view_is
-    (subst (Answers m (Decide c.args.conn)) (sym c.lose.ensures.outcome)
-    (lost_to m c.args.conn c.in-Some.running.now c.index.result.now.tid found may not_next
-    (log_at _ _ c.index.result.now place ∙ ap (λ (commit : Commit). commit.tid) (sym c.index.ensures))))
+    (subst (Answers m (Decide c.args.conn)) (sym c.lose.ensures.outcome) (lost c))
 
 -- there is room for the entry
 pub unreachable-requires : goal.unreachable-requires

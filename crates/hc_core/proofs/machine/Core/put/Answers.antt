@@ -24,28 +24,32 @@ refuse-requires-clause-open c =
     subst (λ a. WhenOpen (txns a) (λ _. Unit {0})) (sym (account_is _ _ _ _ c.index_mut.ensures.value (open_in_range m c.args.conn _ found)))
     (when_map _ _ _ (λ t h. tt) found)
 
+-- what is in the way refuses the put
+refused : (c : goal.After-self-1) → Answers c.args.self.now (Put c.args.conn c.args.key.now c.args.rec.now) (Met c.in-Some-in_the_way.met)
+refused c =
+    let may = c.may_put.ensures.0 c.if-not-may_put.false in
+    let way = c.in-Some-in_the_way.ensures c.args.conn (own_closed c.args.self.now c.args.conn c.args.key.now c.in-Some.running.now c.in-Some.ensures may) in
+    put_refused c.args.self.now c.args.conn c.args.key.now c.args.rec.now c.in-Some.running.now c.in-Some-in_the_way.met c.in-Some.ensures may way
+
 -- the refusal is entered
 pub invariant_of-self : goal.invariant_of-self
 invariant_of-self c =
     let m = machine_of c.self.inside.drawn c.self.inside.log.items c.self.inside.conns.items in
     let found = found_open m _ c.args.conn c.in-Some.running.now (Matches c.in-Some.running.now) c.self.view_is c.in-Some.ensures (λ t h. h) in
-    let may = c.may_put.ensures.0 c.if-not-may_put.false in
-    let way = c.in-Some-in_the_way.ensures c.args.conn (own_closed c.args.self.now c.args.conn c.args.key.now c.in-Some.running.now c.in-Some.ensures may) in
-    let refused : Answers c.args.self.now (Put c.args.conn c.args.key.now c.args.rec.now) (Met c.in-Some-in_the_way.met) =
-    put_refused c.args.self.now c.args.conn c.args.key.now c.args.rec.now c.in-Some.running.now c.in-Some-in_the_way.met c.in-Some.ensures may way in
     kept_changed _ _ _ _ _ _ _ _ (entry_is _ _ _ _ _ _ _ _ c.refuse.ensures.account c.index_mut.ensures.value (open_in_range m c.args.conn _ found) c.refuse.ensures.outcome) c.requires.event
     _ (after_put c.args.key.now c.args.rec.now (Met c.in-Some-in_the_way.met)) c.self.invariant
-    (subst (λ (n : Machine). Answers n (Put c.args.conn c.args.key.now c.args.rec.now) (Met c.in-Some-in_the_way.met)) (sym c.self.view_is) refused)
+    (subst (λ (n : Machine). Answers n (Put c.args.conn c.args.key.now c.args.rec.now) (Met c.in-Some-in_the_way.met)) (sym c.self.view_is) (refused c))
     refl (λ ts. refl)
     (when_map _ _ _ (λ t h. settles_same t _ refl refl refl refl) found)
 
 pub returns-in-Some-in_the_way-clause-answer : goal.returns-in-Some-in_the_way-clause-answer
 returns-in-Some-in_the_way-clause-answer c =
-    let may = c.may_put.ensures.0 c.if-not-may_put.false in
-    let way = c.in-Some-in_the_way.ensures c.args.conn (own_closed c.args.self.now c.args.conn c.args.key.now c.in-Some.running.now c.in-Some.ensures may) in
-    let refused : Answers c.args.self.now (Put c.args.conn c.args.key.now c.args.rec.now) (Met c.in-Some-in_the_way.met) =
-    put_refused c.args.self.now c.args.conn c.args.key.now c.args.rec.now c.in-Some.running.now c.in-Some-in_the_way.met c.in-Some.ensures may way in
-    subst (Answers c.args.self.now (Put c.args.conn c.args.key.now c.args.rec.now)) (sym c.refuse.ensures.outcome) refused
+    subst (Answers c.args.self.now (Put c.args.conn c.args.key.now c.args.rec.now)) (sym c.refuse.ensures.outcome) (refused c)
+
+-- where nothing is, the put is done
+done : (c : goal.In_ok-outcome) → Answers c.args.self.now (Put c.args.conn c.args.key.now c.args.rec.now) Done
+done c = put_done c.args.self.now c.args.conn c.args.key.now c.args.rec.now c.in-Some.running.now c.in-Some.ensures
+    (c.may_put.ensures.0 c.if-not-may_put.false) (c.in_default-in_the_way.ensures c.args.conn)
 
 -- the put is entered
 pub invariant_of-self-2 : goal.invariant_of-self-2
@@ -53,18 +57,13 @@ invariant_of-self-2 c =
     let m = machine_of c.self.inside.drawn c.self.inside.log.items c.self.inside.conns.items in
     let found = found_open m _ c.args.conn c.in-Some.running.now (Matches c.in-Some.running.now) c.self.view_is c.in-Some.ensures (λ t h. h) in
     let may = c.may_put.ensures.0 c.if-not-may_put.false in
-    let done : Answers c.args.self.now (Put c.args.conn c.args.key.now c.args.rec.now) Done =
-    put_done c.args.self.now c.args.conn c.args.key.now c.args.rec.now c.in-Some.running.now c.in-Some.ensures may (c.in_default-in_the_way.ensures c.args.conn) in
     let undecided : WhenOpen (txns_of m c.args.conn) (λ t. t.place ≡ 0) = when_map _ _ _ (λ t h. sym h.place ∙ may.1) found in
     kept_changed _ _ _ _ _ _ _ _ (entry_is _ _ _ _ _ _ _ _ c.in_ok-outcome.ensures.account c.index_mut-2.ensures.value (open_in_range m c.args.conn _ found) c.in_ok-outcome.ensures.outcome) c.requires.event
     _ (after_put c.args.key.now c.args.rec.now Done) c.self.invariant
-    (subst (λ (n : Machine). Answers n (Put c.args.conn c.args.key.now c.args.rec.now) Done) (sym c.self.view_is) done)
+    (subst (λ (n : Machine). Answers n (Put c.args.conn c.args.key.now c.args.rec.now) Done) (sym c.self.view_is) (done c))
     refl (λ ts. refl)
     (when_map _ _ _ (λ t none. settles_put c.args.key.now c.args.rec.now t none c.requires.short) undecided)
 
 pub returns-clause-answer : goal.returns-clause-answer
 returns-clause-answer c =
-    let may = c.may_put.ensures.0 c.if-not-may_put.false in
-    let done : Answers c.args.self.now (Put c.args.conn c.args.key.now c.args.rec.now) Done =
-    put_done c.args.self.now c.args.conn c.args.key.now c.args.rec.now c.in-Some.running.now c.in-Some.ensures may (c.in_default-in_the_way.ensures c.args.conn) in
-    subst (Answers c.args.self.now (Put c.args.conn c.args.key.now c.args.rec.now)) (sym c.in_ok-outcome.ensures.outcome) done
+    subst (Answers c.args.self.now (Put c.args.conn c.args.key.now c.args.rec.now)) (sym c.in_ok-outcome.ensures.outcome) (done c)
