@@ -1,7 +1,9 @@
 // The streams of the standard library as a source and a sink.
 //
 // They tell no bytes: what a file or a terminal gives and takes stands outside of every proof. What
-// is proved is how an answer of the stream is passed on, and when a fault is counted.
+// is proved is that no byte is lost or made up where the stream knows its bytes, and that each call
+// that fails here is counted. That a call fails exactly where the stream's does, or where a writer
+// takes nothing, is only tested: the library's streams say nothing of their errors in contracts.
 ghost use Rattle.std.specs.Prelude.{◌≡◌, ◌<◌, ◌≤◌, length, None, IfOk, OnErr, OnOk};
 ghost use Rattle.std.specs.Io.KnownBytes.{ReadConsumes, WriteAppends};
 ghost use Rattle.hc_io.specs.Faults.{HasCause, one_more};

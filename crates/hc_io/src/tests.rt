@@ -48,6 +48,36 @@ impl Write for Broken {
     }
 }
 
+// A stream of which the first call alone fails.
+#[derive(Drop)]
+struct Faltering {
+    has_failed: bool,
+}
+
+impl Read for Faltering {
+    fn read(&mut self, buffer: &mut [u8]) -> io::Result<usize> {
+        if self.has_failed {
+            return Ok(buffer.len());
+        }
+        self.has_failed = true;
+        Err(io::Error::from(ErrorKind::Interrupted))
+    }
+}
+
+impl Write for Faltering {
+    fn write(&mut self, piece: &[u8]) -> io::Result<usize> {
+        if self.has_failed {
+            return Ok(piece.len());
+        }
+        self.has_failed = true;
+        Err(io::Error::from(ErrorKind::Interrupted))
+    }
+
+    fn flush(&mut self) -> io::Result<()> {
+        Ok(())
+    }
+}
+
 #[test]
 fn memory_is_read_in_pieces_and_fails_where_listed(rt: HostRuntime) -> Result<(), Fail> {
     let bytes = Bytes::from_slice(rt.alloc(), b"abcdefg")?;
@@ -149,4 +179,15 @@ fn a_writer_that_takes_nothing_has_failed(rt: HostRuntime) -> Result<(), Fail> {
     let mut broken = StdSink::new(Broken);
     assert_eq!(rt; write_once(&mut broken, b""), FAILED);
     Ok(())
+}
+
+#[test]
+fn a_failed_call_is_told_and_the_next_goes_through(rt: HostRuntime) {
+    let mut source = StdSource::new(Faltering { has_failed: false });
+    assert_eq!(rt; read_three(&mut source).0, FAILED);
+    assert_eq!(rt; read_three(&mut source), (Ok(3), [0; 3]));
+
+    let mut sink = StdSink::new(Faltering { has_failed: false });
+    assert_eq!(rt; write_once(&mut sink, b"abc"), FAILED);
+    assert_eq!(rt; write_once(&mut sink, b"abc"), Ok(3));
 }
