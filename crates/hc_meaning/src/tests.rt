@@ -4,7 +4,7 @@
 ghost use Rattle.std.specs.Prelude.{◌^◌, ◌<◌, All, IsTrue, length};
 
 use crate::plain::{
-    ascend, cut_all, history, is_in_order, is_legal, is_right_run, others_are_read,
+    ascend, cut_all, history, is_in_order, is_legal, is_right_run, others_are_read, played,
 };
 use crate::{Script, Statement};
 use hc_reply::{Ending, Line, Refusal, Reply, Row, Transcript};
@@ -339,6 +339,25 @@ fn several_connections_are_right_or_told_apart(rt: HostRuntime) -> Result<(), Fa
         let found = judge(&rt, rt.alloc(), scripts.as_slice(), transcripts.as_slice())?;
         assert_eq!(rt; found, want, "{name}");
     }
+    Ok(())
+}
+
+// The judge does not call `played`, and no run but the serial one is right.
+#[test]
+fn a_serial_run_is_played(rt: HostRuntime) -> Result<(), Fail> {
+    let statements = [
+        Statement::Insert { id: 1, v: 10 },
+        Statement::Insert { id: 1, v: 11 },
+        Statement::Insert { id: 2, v: 20 },
+        Statement::Select { id: 2 },
+        Statement::Select { id: 9 },
+    ];
+    let replies = Items::from_vec(played(rt.alloc(), &statements)?);
+    let scripts = one_script(rt.alloc(), &statements)?;
+    let mut transcripts = Vec::new(rt.alloc());
+    transcripts.push(Transcript { conn: 0, replies })?;
+    let found = judge(&rt, rt.alloc(), scripts.as_slice(), transcripts.as_slice())?;
+    assert_eq!(rt; found, Finding::Right);
     Ok(())
 }
 
