@@ -8,6 +8,7 @@ use Rattle.hc_value.specs.declared.expected.Expected.{Expected}
 use Rattle.hc_value.specs.declared.expected.Expected.TheVariants.{Any, Character, Following}
 use Rattle.hc_value.specs.Expected.{Follows, Completes, IsOpen, IsNext, IsRefused}
 
+-- so many bytes in their bounds, and then a text, can come
 filled : (more low high : ℕ) → low ≤ high → (x : List ℕ) × Follows more low high x
 filled zero low high le = ([], IsUtf8-nil)
 filled (suc more) low high le =
@@ -16,29 +17,33 @@ filled (suc more) low high le =
     (low ∷ rest.0, (least, le, rest.1))
 
 -- what is expected can come
-some_completes : (e : Expected) → IsOpen e → (x : List ℕ) × Completes e x
+pub some_completes : (e : Expected) → IsOpen e → (x : List ℕ) × Completes e x
 some_completes Any alive = ([], tt)
 some_completes Character alive = ([], IsUtf8-nil)
 some_completes (Following more low high) alive = filled more low high alive.2
 
+-- where a byte of ASCII may come, it may end
 before_ascii : (e : Expected) (b : ℕ) (x : List ℕ) → IsOpen e → b < 128 → Completes e (b ∷ x) → Completes e []
 before_ascii Any b x alive small next = tt
 before_ascii Character b x alive small next = IsUtf8-nil
 before_ascii (Following zero low high) b x alive small next = absurd (omega (arith, alive.0))
 before_ascii (Following (suc more) low high) b x alive small next = absurd (omega (arith, alive.1, next.0))
 
+-- where it may end, a byte of ASCII may come
 ascii_behind : (e : Expected) (b : ℕ) → IsOpen e → b < 128 → Completes e [] → Completes e (b ∷ [])
 ascii_behind Any b alive small done = tt
 ascii_behind Character b alive small done = subst IsUtf8 (encode_ascii b small) (IsUtf8-encode b (low_scalar b (omega arith)))
 ascii_behind (Following zero low high) b alive small done = absurd (omega (arith, alive.0))
 ascii_behind (Following (suc more) low high) b alive small done = absurd done
 
+-- the clause `ends`, from the clause `next`
 pub may_end : (e : Expected) (b : ℕ) (next : Option Expected) → IsOpen e → IfSome next (IsNext e b) → IfSome next (λ n. b < 128 → Completes e [])
 may_end e b None alive some = tt
 may_end e b (Some n) alive some = λ small.
     let x = some_completes n some.0 in
     before_ascii e b x.0 alive small ((some.1 x.0).0 x.1)
 
+-- the clause `goes_on`, from the clause `refused`
 pub may_not_end : (e : Expected) (b : ℕ) (next : Option Expected) → IsOpen e → IfNone next (IsRefused e b) → IfNone next (b < 128 → Completes e [] → ⊥)
 may_not_end e b None alive none = λ small done. none [] (ascii_behind e b alive small done)
 may_not_end e b (Some n) alive none = tt

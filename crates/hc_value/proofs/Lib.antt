@@ -1,3 +1,3 @@
 mod Characters
-mod Ends
+pub mod Ends
 mod Total

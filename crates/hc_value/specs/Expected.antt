@@ -16,7 +16,7 @@ Completes Any bytes = Unit {0}
 Completes Character bytes = IsUtf8 bytes
 Completes (Following more low high) bytes = Follows more low high bytes
 
--- some bytes are what is expected, and none of them is 0 within a character
+-- some bytes are what is expected, and within a character no byte of ASCII may come next
 abbrev pub IsOpen : Expected → Type 0
 IsOpen Any = Unit {0}
 IsOpen Character = Unit {0}
@@ -30,6 +30,7 @@ IsNext expected byte next = IsOpen next × ((rest : List ℕ) → Completes next
 abbrev pub IsRefused : Expected → ℕ → Type 0
 IsRefused expected byte = (rest : List ℕ) → Completes expected (byte ∷ rest) → ⊥
 
--- behind what was read of a content, what goes on with it is what is expected now
+-- Behind what was read of a content, what goes on with it is what is expected now. No contract cites it: it is the
+-- fact that the loops of hc_key and hc_reply keep as they read a text or a blob byte by byte.
 abbrev pub GoesOn : Expected → List ℕ → Expected → Type 0
 GoesOn first content expected = (rest : List ℕ) → Completes expected rest ↔ Completes first (content ++ rest)
