@@ -1,5 +1,6 @@
-// The places of the values are SQLite's: section 4.1 of https://www.sqlite.org/datatype3.html.
-use crate::{Blob, Class, NoMemory, Str, Value, class, cmp, copy};
+// The places of the values are SQLite's: section 4.1 of https://www.sqlite.org/datatype3.html. The bounds of the
+// bytes of a character are those of table 3-7, "Well-Formed UTF-8 Byte Sequences", of the Unicode Standard.
+use crate::{Blob, Class, Expected, NoMemory, Str, Value, class, cmp, copy, next_expected};
 use std::alloc::Global;
 use std::test::Fail;
 
@@ -87,5 +88,84 @@ fn texts_and_blobs_are_made_of_what_is_there(rt: HostRuntime) -> Result<(), Fail
         Blob::from_vec(bytes),
         Blob::from_slice(alloc, b"\x00\xff")?
     );
+    Ok(())
+}
+
+// Whether so many more bytes of a character are expected, of which the next lies from `low` to `high`.
+fn is_following(expected: Option<Expected>, bounds: (u8, u8, u8)) -> bool {
+    match expected {
+        Some(Expected::Following { more, low, high }) => (more, low, high) == bounds,
+        _ => false,
+    }
+}
+
+#[test]
+fn the_first_byte_of_a_character_tells_the_second(rt: HostRuntime) -> Result<(), Fail> {
+    for (first, bounds) in [
+        (0xc2u8, (1u8, 0x80u8, 0xbfu8)),
+        (0xdf, (1, 0x80, 0xbf)),
+        (0xe0, (2, 0xa0, 0xbf)),
+        (0xe1, (2, 0x80, 0xbf)),
+        (0xec, (2, 0x80, 0xbf)),
+        (0xed, (2, 0x80, 0x9f)),
+        (0xee, (2, 0x80, 0xbf)),
+        (0xef, (2, 0x80, 0xbf)),
+        (0xf0, (3, 0x90, 0xbf)),
+        (0xf1, (3, 0x80, 0xbf)),
+        (0xf3, (3, 0x80, 0xbf)),
+        (0xf4, (3, 0x80, 0x8f)),
+    ] {
+        let behind = next_expected(Expected::Character, first);
+        assert!(rt; is_following(behind, bounds), "behind {first}");
+    }
+    for first in [0x00, 0x7f] {
+        let behind = next_expected(Expected::Character, first);
+        assert!(rt;
+            matches!(behind, Some(Expected::Character)),
+            "behind {first}"
+        );
+    }
+    for first in [0x80, 0xbf, 0xc0, 0xc1, 0xf5, 0xff] {
+        let behind = next_expected(Expected::Character, first);
+        assert!(rt; behind.is_none(), "behind {first}");
+    }
+    Ok(())
+}
+
+#[test]
+fn a_later_byte_of_a_character_lies_in_its_bounds(rt: HostRuntime) -> Result<(), Fail> {
+    // Behind F0, behind ED, and where one byte is left.
+    let four = Expected::Following {
+        more: 3,
+        low: 0x90,
+        high: 0xbf,
+    };
+    let surrogates = Expected::Following {
+        more: 2,
+        low: 0x80,
+        high: 0x9f,
+    };
+    let last = Expected::Following {
+        more: 1,
+        low: 0x80,
+        high: 0xbf,
+    };
+    assert!(rt; next_expected(four, 0x8f).is_none());
+    assert!(rt; is_following(next_expected(four, 0x90), (2, 0x80, 0xbf)));
+    assert!(rt; is_following(next_expected(surrogates, 0x9f), (1, 0x80, 0xbf)));
+    assert!(rt; next_expected(surrogates, 0xa0).is_none());
+    assert!(rt; next_expected(last, 0x7f).is_none());
+    assert!(rt; matches!(next_expected(last, 0x80), Some(Expected::Character)));
+    assert!(rt; matches!(next_expected(last, 0xbf), Some(Expected::Character)));
+    assert!(rt; next_expected(last, 0xc0).is_none());
+    Ok(())
+}
+
+#[test]
+fn any_byte_goes_on_with_a_blob(rt: HostRuntime) -> Result<(), Fail> {
+    for byte in [0x00, 0x7f, 0x80, 0xff] {
+        let behind = next_expected(Expected::Any, byte);
+        assert!(rt; matches!(behind, Some(Expected::Any)), "behind {byte}");
+    }
     Ok(())
 }
