@@ -1,6 +1,11 @@
 //! The values of SQL with their classes and their order, and the texts that the other crates hand to
 //! each other.
 //!
+//! `class` tells a value's class, `copy` makes a value of its own that is the same, and `cmp` puts two
+//! values in the order of SQL. That order is total, and takes two values for equal exactly where they are
+//! the same. `next_expected` reads a text or a blob byte by byte: it answers what may come behind a byte, or
+//! `None` where no text goes on with it.
+//!
 //! A contract sees a `Str` or a `Blob` as the list of its bytes, so two of them with the same bytes are
 //! equal, whatever room they have reserved. A call that takes memory is given the allocator first and
 //! answers `NoMemory` where an allocation is refused.
