@@ -1,5 +1,6 @@
 pub mod Overlap
 pub mod ByteOrder
+pub mod ByteStrings
 pub mod Ends
 pub mod Normal
 pub mod Searched
