@@ -86,6 +86,17 @@ HasFirst bytes = ((k : Option TokenKind) × (rest : List ℕ) × Skips (IsTokenO
 first_token : (k : TokenKind) (bytes text rest : List ℕ) → bytes ≡ text ++ rest → IsToken k text rest → HasFirst bytes
 first_token k bytes text rest e is = inl (Some k, rest, (text, e, is))
 
+-- a sign of one character
+one_sign : (k : TokenKind) (c : ℕ) (bytes : List ℕ) → IsToken k (c ∷ []) bytes → HasFirst (c ∷ bytes)
+one_sign k c bytes is = first_token k (c ∷ bytes) (c ∷ []) bytes refl is
+
+-- a sign of two characters, or what the first of them begins where the second does not follow
+two_signs_or : (k : TokenKind) (c d : ℕ) (bytes : List ℕ) → ((rest : List ℕ) → IsToken k (c ∷ d ∷ []) rest) → (¬ BeginsWith d bytes → HasFirst (c ∷ bytes)) → HasFirst (c ∷ bytes)
+two_signs_or k c d bytes is otherwise = elim (begins_tells d bytes) [
+  | inl second ↦ first_token k (c ∷ bytes) (c ∷ d ∷ []) second.0 (ap (λ bs. c ∷ bs) second.1) (is second.0)
+  | inr alone ↦ otherwise alone
+]
+
 first_blank : (bytes rest : List ℕ) → Skips IsBlank bytes rest → HasFirst bytes
 first_blank bytes rest skips = inl (None, rest, skips)
 
@@ -207,114 +218,57 @@ block_first bytes inner e =
 first_minus : (bytes : List ℕ) → HasFirst (45 ∷ bytes)
 first_minus bytes = elim (begins_tells 45 bytes) [
   | inl comment ↦ first_blank (45 ∷ bytes) (after_run run.Line comment.0) (line_first bytes comment.0 comment.1)
-  | inr alone ↦ first_token kind.Minus (45 ∷ bytes) (45 ∷ []) bytes refl (refl, alone)
+  | inr alone ↦ one_sign kind.Minus 45 bytes (refl, alone)
 ]
 
 first_slash : (bytes : List ℕ) → HasFirst (47 ∷ bytes)
 first_slash bytes = elim (begins_tells 42 bytes) [
   | inl comment ↦ let block = block_first bytes comment.0 comment.1 in first_blank (47 ∷ bytes) block.0 block.1
-  | inr alone ↦ first_token kind.Slash (47 ∷ bytes) (47 ∷ []) bytes refl (refl, alone)
+  | inr alone ↦ one_sign kind.Slash 47 bytes (refl, alone)
 ]
 
 first_equal : (bytes : List ℕ) → HasFirst (61 ∷ bytes)
-first_equal bytes = elim (begins_tells 61 bytes) [
-  | inl second ↦ first_token kind.DoubleEqual (61 ∷ bytes) (61 ∷ 61 ∷ []) second.0 (ap (λ bs. 61 ∷ bs) second.1) refl
-  | inr alone ↦ first_token kind.Equal (61 ∷ bytes) (61 ∷ []) bytes refl (refl, alone)
-]
+first_equal bytes = two_signs_or kind.DoubleEqual 61 61 bytes (λ rest. refl) (λ alone. one_sign kind.Equal 61 bytes (refl, alone))
 
 first_less : (bytes : List ℕ) → HasFirst (60 ∷ bytes)
-first_less bytes = elim (begins_tells 61 bytes) [
-  | inl second ↦ first_token kind.LessEqual (60 ∷ bytes) (60 ∷ 61 ∷ []) second.0 (ap (λ bs. 60 ∷ bs) second.1) refl
-  | inr no_equal ↦ elim (begins_tells 62 bytes) [
-    | inl second ↦ first_token kind.LessGreater (60 ∷ bytes) (60 ∷ 62 ∷ []) second.0 (ap (λ bs. 60 ∷ bs) second.1) refl
-    | inr alone ↦ first_token kind.Less (60 ∷ bytes) (60 ∷ []) bytes refl (refl, no_equal, alone)
-  ]
-]
+first_less bytes =
+    two_signs_or kind.LessEqual 60 61 bytes (λ rest. refl) (λ no_equal.
+    two_signs_or kind.LessGreater 60 62 bytes (λ rest. refl) (λ alone. one_sign kind.Less 60 bytes (refl, no_equal, alone)))
 
 first_greater : (bytes : List ℕ) → HasFirst (62 ∷ bytes)
-first_greater bytes = elim (begins_tells 61 bytes) [
-  | inl second ↦ first_token kind.GreaterEqual (62 ∷ bytes) (62 ∷ 61 ∷ []) second.0 (ap (λ bs. 62 ∷ bs) second.1) refl
-  | inr alone ↦ first_token kind.Greater (62 ∷ bytes) (62 ∷ []) bytes refl (refl, alone)
-]
+first_greater bytes = two_signs_or kind.GreaterEqual 62 61 bytes (λ rest. refl) (λ alone. one_sign kind.Greater 62 bytes (refl, alone))
 
 first_not : (bytes : List ℕ) → HasFirst (33 ∷ bytes)
-first_not bytes = elim (begins_tells 61 bytes) [
-  | inl second ↦ first_token kind.NotEqual (33 ∷ bytes) (33 ∷ 61 ∷ []) second.0 (ap (λ bs. 33 ∷ bs) second.1) refl
-  | inr alone ↦ inr (Char, 0, inl (refl, inr (inr (inl (refl, alone)))))
-]
+first_not bytes = two_signs_or kind.NotEqual 33 61 bytes (λ rest. refl) (λ alone. inr (Char, 0, inl (refl, inr (inr (inl (refl, alone))))))
 
 first_bar : (bytes : List ℕ) → HasFirst (124 ∷ bytes)
-first_bar bytes = elim (begins_tells 124 bytes) [
-  | inl second ↦ first_token kind.DoubleBar (124 ∷ bytes) (124 ∷ 124 ∷ []) second.0 (ap (λ bs. 124 ∷ bs) second.1) refl
-  | inr alone ↦ inr (Char, 0, inl (refl, inr (inr (inr (refl, alone)))))
-]
+first_bar bytes = two_signs_or kind.DoubleBar 124 124 bytes (λ rest. refl) (λ alone. inr (Char, 0, inl (refl, inr (inr (inr (refl, alone))))))
 
 module _ (b : ℕ) (bytes : List ℕ) where
   as_is : (c : ℕ) → b ≡ c → HasFirst (c ∷ bytes) → HasFirst (b ∷ bytes)
   as_is c e first = subst (λ x. HasFirst (x ∷ bytes)) (sym e) first
 
-  alone : (k : TokenKind) (c : ℕ) → IsToken k (c ∷ []) bytes → HasFirst (c ∷ bytes)
-  alone k c is = first_token k (c ∷ bytes) (c ∷ []) bytes refl is
+  -- the byte is c, or another
+  is_or : (c : ℕ) → HasFirst (c ∷ bytes) → (b ≢ c → HasFirst (b ∷ bytes)) → HasFirst (b ∷ bytes)
+  is_or c first otherwise = elim (eqb_tells b c) [ inl e ↦ as_is c e.1 first | inr isnt ↦ otherwise isnt.1 ]
 
   first_sign : is_sign b ≡ true → HasFirst (b ∷ bytes)
   first_sign is =
-      elim (eqb_tells b 40) [
-        | inl e ↦ as_is 40 e.1 (alone kind.LeftParen 40 refl)
-        | inr n40 ↦
-            elim (eqb_tells b 41) [
-              | inl e ↦ as_is 41 e.1 (alone kind.RightParen 41 refl)
-              | inr n41 ↦
-                  elim (eqb_tells b 44) [
-                    | inl e ↦ as_is 44 e.1 (alone kind.Comma 44 refl)
-                    | inr n44 ↦
-                        elim (eqb_tells b 46) [
-                          | inl e ↦ as_is 46 e.1 (alone kind.Dot 46 refl)
-                          | inr n46 ↦
-                              elim (eqb_tells b 43) [
-                                | inl e ↦ as_is 43 e.1 (alone kind.Plus 43 refl)
-                                | inr n43 ↦
-                                    elim (eqb_tells b 45) [
-                                      | inl e ↦ as_is 45 e.1 (first_minus bytes)
-                                      | inr n45 ↦
-                                          elim (eqb_tells b 42) [
-                                            | inl e ↦ as_is 42 e.1 (alone kind.Star 42 refl)
-                                            | inr n42 ↦
-                                                elim (eqb_tells b 47) [
-                                                  | inl e ↦ as_is 47 e.1 (first_slash bytes)
-                                                  | inr n47 ↦
-                                                      elim (eqb_tells b 37) [
-                                                        | inl e ↦ as_is 37 e.1 (alone kind.Percent 37 refl)
-                                                        | inr n37 ↦
-                                                            elim (eqb_tells b 59) [
-                                                              | inl e ↦ as_is 59 e.1 (alone kind.Semicolon 59 refl)
-                                                              | inr n59 ↦
-                                                                  elim (eqb_tells b 61) [
-                                                                    | inl e ↦ as_is 61 e.1 (first_equal bytes)
-                                                                    | inr n61 ↦
-                                                                        elim (eqb_tells b 60) [
-                                                                          | inl e ↦ as_is 60 e.1 (first_less bytes)
-                                                                          | inr n60 ↦
-                                                                              elim (eqb_tells b 62) [
-                                                                                | inl e ↦ as_is 62 e.1 (first_greater bytes)
-                                                                                | inr n62 ↦
-                                                                                    elim (eqb_tells b 33) [
-                                                                                      | inl e ↦ as_is 33 e.1 (first_not bytes)
-                                                                                      | inr n33 ↦
-                                                                                          as_is 124 (bar_is_left b is n40.1 n41.1 n44.1 n46.1 n43.1 n45.1 n42.1 n47.1 n37.1 n59.1 n61.1 n60.1 n62.1 n33.1) (first_bar bytes)
-                                                                                    ]
-                                                                              ]
-                                                                        ]
-                                                                  ]
-                                                            ]
-                                                      ]
-                                                ]
-                                          ]
-                                    ]
-                              ]
-                        ]
-                  ]
-            ]
-      ]
+      is_or 40 (one_sign kind.LeftParen 40 bytes refl) (λ n40.
+      is_or 41 (one_sign kind.RightParen 41 bytes refl) (λ n41.
+      is_or 44 (one_sign kind.Comma 44 bytes refl) (λ n44.
+      is_or 46 (one_sign kind.Dot 46 bytes refl) (λ n46.
+      is_or 43 (one_sign kind.Plus 43 bytes refl) (λ n43.
+      is_or 45 (first_minus bytes) (λ n45.
+      is_or 42 (one_sign kind.Star 42 bytes refl) (λ n42.
+      is_or 47 (first_slash bytes) (λ n47.
+      is_or 37 (one_sign kind.Percent 37 bytes refl) (λ n37.
+      is_or 59 (one_sign kind.Semicolon 59 bytes refl) (λ n59.
+      is_or 61 (first_equal bytes) (λ n61.
+      is_or 60 (first_less bytes) (λ n60.
+      is_or 62 (first_greater bytes) (λ n62.
+      is_or 33 (first_not bytes) (λ n33.
+      as_is 124 (bar_is_left b is n40 n41 n44 n46 n43 n45 n42 n47 n37 n59 n61 n60 n62 n33) (first_bar bytes)))))))))))))))
 
 first_by : (b : ℕ) (bytes : List ℕ) (k : Class) → class_of b ≡ k → HasFirst (b ∷ bytes)
 first_by b bytes Space e = first_blank (b ∷ bytes) bytes (one_space (b ∷ bytes) b bytes refl e)
