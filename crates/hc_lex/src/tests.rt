@@ -53,6 +53,12 @@ fn statements_end_outside_literals_names_and_comments(rt: HostRuntime) {
 }
 
 #[test]
+fn a_script_of_three_statements_has_three_spans(rt: HostRuntime) {
+    let want = [span(0, 1), span(2, 3), span(4, 5)];
+    expect_statements(&rt, rt.alloc(), "a;b;c", &want);
+}
+
+#[test]
 fn what_does_not_end_runs_to_the_end_of_the_script(rt: HostRuntime) {
     let alloc = rt.alloc();
     expect_statements(&rt, alloc, "'open; -- ", &[span(0, 10)]);
