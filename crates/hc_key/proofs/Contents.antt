@@ -1,46 +1,15 @@
 -- The bytes of a text or a blob, read up to their end or up to a fault.
-use Rattle.std.proofs.Common.{◌≡◌, ℕ, zero, suc, ◌+◌, ◌-◌, ◌≤◌, List, [], ◌∷◌, ◌++◌, length, refl, sym, ap, subst, ◌∙◌, arith, append_assoc}
-use Rattle.std.proofs.lemmas.Str.{IsUtf8-nil, IsUtf8-encode, encode_ascii}
-use Rattle.std.specs.Str.{IsUtf8}
-use lib.Utf8.{low_scalar}
+use Rattle.std.proofs.Common.{◌≡◌, ℕ, zero, suc, ◌+◌, ◌-◌, ◌<◌, List, [], ◌∷◌, ◌++◌, length, refl, sym, ap, subst, ◌∙◌, arith, append_assoc}
 use Rattle.std.proofs.lemmas.List.{append-nil, length-append}
 use Rattle.std.proofs.lemmas.List.Concat.{flat_map-append}
 use Rattle.hc_value.specs.declared.expected.Expected.{Expected}
-use Rattle.hc_value.specs.declared.expected.Expected.TheVariants.{Any, Character, Following}
 use Rattle.hc_key.specs.Keys.{escape, escaped, ended}
 use Rattle.hc_key.specs.Reading.{IsContent, BeginsOne, NoneGoesOn, IsFaultOf, IsPartFault}
-use Rattle.hc_value.specs.Expected.{Follows, Completes, IsOpen}
+use Rattle.hc_value.specs.Expected.{Completes, IsOpen, IsNext, IsRefused, GoesOn}
+use Rattle.hc_value.proofs.Ends.{some_completes}
 use Rattle.hc_key.specs.declared.fault.KeyFault.{KeyFault}
 use Rattle.hc_key.specs.declared.fault.KeyFault.TheVariants.{Bad}
-use Rattle.hc_value.specs.Expected.{IsNext, IsRefused, GoesOn}
 use Rattle.hc_key.proofs.Bytes.{closed}
-
--- ---- what is expected can come
-
-filled : (more low high : ℕ) → low ≤ high → (x : List ℕ) × Follows more low high x
-filled zero low high le = ([], IsUtf8-nil)
-filled (suc more) low high le =
-    let rest = filled more 128 191 (omega arith) in
-    let least : low ≤ low = omega arith in
-    (low ∷ rest.0, (least, le, rest.1))
-
-some_completes : (e : Expected) → IsOpen e → (x : List ℕ) × Completes e x
-some_completes Any alive = ([], tt)
-some_completes Character alive = ([], IsUtf8-nil)
-some_completes (Following more low high) alive = filled more low high alive.2
-
--- a text that may go on with a zero may end there, and the other way round
-ends_before_zero : (e : Expected) → IsOpen e → Completes e [] → Completes e (0 ∷ [])
-ends_before_zero Any alive done = tt
-ends_before_zero Character alive done = subst IsUtf8 (encode_ascii 0 (omega arith)) (IsUtf8-encode 0 (low_scalar 0 (omega arith)))
-ends_before_zero (Following zero low high) alive done = absurd (omega (arith, alive.0))
-ends_before_zero (Following (suc more) low high) alive done = absurd done
-
-zero_at_end : (e : Expected) (x : List ℕ) → IsOpen e → Completes e (0 ∷ x) → Completes e []
-zero_at_end Any x alive next = tt
-zero_at_end Character x alive next = IsUtf8-nil
-zero_at_end (Following zero low high) x alive next = absurd (omega (arith, alive.0))
-zero_at_end (Following (suc more) low high) x alive next = absurd (omega (arith, alive.1, next.0))
 
 -- ---- one byte more
 
@@ -60,14 +29,12 @@ pub written_further : (bytes out rest after left : List ℕ) (b : ℕ) → bytes
 written_further bytes out rest after left b all first behind =
     all ∙ ap (λ (l : List ℕ). escaped out ++ l) (first ∙ behind) ∙ sym (escaped_more out b left)
 
-pub all_read : (f e n : Expected) (bytes out rest left : List ℕ) → IsOpen e → GoesOn f out e → IsNext e 0 n → bytes ≡ escaped out ++ rest → rest ≡ 0 ∷ 0 ∷ left
+pub all_read : (f e : Expected) (bytes out rest left : List ℕ) → GoesOn f out e → Completes e [] → bytes ≡ escaped out ++ rest → rest ≡ 0 ∷ 0 ∷ left
     → (bytes ≡ ended out ++ left) × Completes f out
-all_read f e n bytes out rest left alive goes next all there =
-    let some = some_completes n next.0 in
-    let done : Completes e [] = zero_at_end e some.0 alive ((next.1 some.0).0 some.1) in (
-      all ∙ ap (λ (l : List ℕ). escaped out ++ l) there ∙ sym (append_assoc (escaped out) (0 ∷ 0 ∷ []) left),
-      subst (Completes f) (append-nil out) ((goes []).0 done),
-    )
+all_read f e bytes out rest left goes done all there = (
+  all ∙ ap (λ (l : List ℕ). escaped out ++ l) there ∙ sym (append_assoc (escaped out) (0 ∷ 0 ∷ []) left),
+  subst (Completes f) (append-nil out) ((goes []).0 done),
+)
 
 -- ---- faults
 
@@ -128,13 +95,14 @@ cannot_end e [] r c h = cc
 cannot_end e (zero ∷ d) r c h = cc
 cannot_end e (suc b ∷ d) r c h = cc
 
-cannot_refused : (e : Expected) (b : ℕ) (s : List ℕ) → IsOpen e → IsRefused e b → CannotGoOn e (b ∷ s)
-cannot_refused e zero s alive refused [] r c h = refused [] (ends_before_zero e alive c)
-cannot_refused e zero s alive refused (zero ∷ d) r c h = refused d c
-cannot_refused e zero s alive refused (suc x ∷ d) r c h = let k : suc x ≡ 0 = cc in omega (arith, k)
-cannot_refused e (suc b) s alive refused [] r c h = let k : 0 ≡ suc b = cc in omega (arith, k)
-cannot_refused e (suc b) s alive refused (zero ∷ d) r c h = let k : 0 ≡ suc b = cc in omega (arith, k)
-cannot_refused e (suc b) s alive refused (suc x ∷ d) r c h =
+-- a refused byte cannot stand there, and no content ends there for an escape or an end to begin with it
+cannot_refused : (e : Expected) (b : ℕ) (s : List ℕ) → (b < 128 → Completes e [] → ⊥) → IsRefused e b → CannotGoOn e (b ∷ s)
+cannot_refused e zero s no_end refused [] r c h = no_end (omega arith) c
+cannot_refused e zero s no_end refused (zero ∷ d) r c h = refused d c
+cannot_refused e zero s no_end refused (suc x ∷ d) r c h = let k : suc x ≡ 0 = cc in omega (arith, k)
+cannot_refused e (suc b) s no_end refused [] r c h = let k : 0 ≡ suc b = cc in omega (arith, k)
+cannot_refused e (suc b) s no_end refused (zero ∷ d) r c h = let k : 0 ≡ suc b = cc in omega (arith, k)
+cannot_refused e (suc b) s no_end refused (suc x ∷ d) r c h =
     let k : suc x ≡ suc b = cc in refused d (subst (λ (a : ℕ). Completes e (a ∷ d)) k c)
 
 cannot_zero_end : (e : Expected) → CannotGoOn e (0 ∷ [])
@@ -157,14 +125,14 @@ fault_at_end f e bytes out rest alive goes all none = (
   none_goes_on f e out [] (escaped out) goes (sym (append-nil (escaped out))) (cannot_end e),
 )
 
-pub fault_at_byte : (f e : Expected) (bytes out rest after : List ℕ) (b : ℕ) → IsOpen e → GoesOn f out e → bytes ≡ escaped out ++ rest → rest ≡ b ∷ after → IsRefused e b → IsFaultOf (IsContent f) bytes (length (escaped out))
-fault_at_byte f e bytes out rest after b alive goes all first refused = (
+pub fault_at_byte : (f e : Expected) (bytes out rest after : List ℕ) (b : ℕ) → IsOpen e → GoesOn f out e → bytes ≡ escaped out ++ rest → rest ≡ b ∷ after → (b < 128 → Completes e [] → ⊥) → IsRefused e b → IsFaultOf (IsContent f) bytes (length (escaped out))
+fault_at_byte f e bytes out rest after b alive goes all first no_end refused = (
   escaped out,
   b ∷ after,
   all ∙ ap (λ (l : List ℕ). escaped out ++ l) first,
   refl,
   begins_here f e out alive goes,
-  λ one more s content same. none_goes_on f e out (b ∷ s) (escaped out ++ b ∷ s) goes refl (cannot_refused e b s alive refused) one more content same,
+  λ one more s content same. none_goes_on f e out (b ∷ s) (escaped out ++ b ∷ s) goes refl (cannot_refused e b s no_end refused) one more content same,
 )
 
 pub fault_behind_zero : (f e n : Expected) (bytes out rest after : List ℕ) → GoesOn f out e → IsNext e 0 n → bytes ≡ escaped out ++ rest → rest ≡ 0 ∷ after

@@ -1,8 +1,7 @@
 -- What was read, what is left, and what may come.
 use Rattle.std.proofs.Common.{◌≡◌, ◌++◌, length}
 use Rattle.hc_key.specs.Keys.{escaped}
-use Rattle.hc_value.specs.Expected.{IsOpen}
-use Rattle.hc_value.specs.Expected.{GoesOn}
+use Rattle.hc_value.specs.Expected.{IsOpen, GoesOn}
 use Rattle.hc_key.proofs.content.content.Given as goal
 
 abbrev pub invariant-loop-byte : goal.invariant-loop-byte
