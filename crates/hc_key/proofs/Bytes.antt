@@ -6,8 +6,8 @@ use Rattle.std.specs.Cmp.Lexicographic.{slice_cmp}
 use Rattle.std.specs.Int.{bytes_high_first, byte_at}
 use Rattle.std.proofs.lemmas.Cmp.{nat_cmp_total, tied_itself, ranked, int_ranked}
 use Rattle.std.proofs.lemmas.Int.{ints}
-use Rattle.std.proofs.Math.Nat.{pow-suc, div-div-eq-div-mul}
 use Rattle.hc_key.specs.Keys.{turned, escaped, ended}
+use Rattle.hc_range.proofs.ByteStrings.{one_byte_more, byte_at-is}
 
 abbrev pub bytes_cmp : List ℕ → List ℕ → Ordering
 bytes_cmp = slice_cmp nat_cmp
@@ -21,13 +21,6 @@ pub same_first : (x : ℕ) (o : Ordering) → ordering_then (nat_cmp x x) o ≡ 
 same_first x o = ap (λ (p : Ordering). ordering_then p o) (tied_itself nat_cmp_total x)
 
 -- ---- numbers, high byte first
-
-one_byte_more : (n k : ℕ) → n / 256 ^ suc k ≡ n / 256 ^ k / 256
-one_byte_more n k = ap (λ (p : ℕ). n / p) (pow-suc 256 k) ∙ sym (div-div-eq-div-mul n (256 ^ k) 256)
-
-byte_at-is : (k n : ℕ) → byte_at k n ≡ n / 256 ^ k % 256
-byte_at-is zero n = ap (λ (m : ℕ). m % 256) (let e : n ≡ n / 1 = omega arith in e)
-byte_at-is (suc k) n = refl
 
 -- two numbers compare by their quotients, and then by themselves
 quotients_first : (q r m n : ℕ) → q ≡ m / 256 → r ≡ n / 256 → ordering_then (nat_cmp q r) (nat_cmp (m % 256) (n % 256)) ≡ nat_cmp m n

@@ -1,11 +1,11 @@
 -- A value behind its class: what was read of it, and where its fault is.
-use Rattle.std.proofs.Common.{◌≡◌, ℕ, zero, suc, ◌+◌, ◌-◌, ◌^◌, ◌<◌, ◌≤◌, ℤ, pos, negsuc, List, [], ◌∷◌, ◌++◌, length, get_or, take, drop, refl, sym, ap, subst, ◌∙◌, arith, inl, inr, w32, w64, FitsSigned}
+use Rattle.std.proofs.Common.{◌≡◌, ℕ, ◌+◌, ◌-◌, ◌^◌, ◌<◌, ◌≤◌, ℤ, pos, negsuc, List, [], ◌∷◌, ◌++◌, length, take, drop, refl, sym, ap, subst, ◌∙◌, arith, inl, inr, w32, w64, FitsSigned}
 use Rattle.std.specs.Prelude.{replicate}
 use Rattle.std.specs.Str.{IsUtf8}
 use Rattle.std.specs.Int.{bytes_high_first, from_be_bytes}
 use Rattle.std.proofs.lemmas.Bool.{cases_lt}
 use Rattle.std.proofs.lemmas.Nat.{be_bytes_8}
-use Rattle.std.proofs.lemmas.List.{append-nil, length-append, length-replicate, length-take, get_or-take, get_or_past, take-append-drop}
+use Rattle.std.proofs.lemmas.List.{append-nil, length-append, length-replicate, length-take, take-append-drop}
 use Rattle.hc_value.specs.declared.value.Value.{Value}
 use Rattle.hc_value.specs.declared.value.Value.TheVariants.{Null, Int, Text, Blob}
 use Rattle.hc_value.specs.Values.{IsValue}
@@ -16,6 +16,7 @@ use Rattle.hc_key.specs.declared.fault.KeyFault.TheVariants.{Bad, NoMemory}
 use Rattle.hc_key.specs.Keys.{turned, ended, value_bytes}
 use Rattle.hc_key.specs.Reading.{IsContent, IsValuePart, NoneGoesOn, IsFaultOf, IsPartFault}
 use Rattle.hc_value.specs.Expected.{Completes}
+use Rattle.hc_range.proofs.ByteStrings.{IsBytes, IsBytes-padded, IsBytes-take}
 
 -- ---- values by their classes
 
@@ -112,26 +113,6 @@ null_found rest = refl
 
 -- ---- integers
 
-abbrev pub IsBytes : List ℕ → Type 0
-IsBytes bytes = (i : ℕ) → get_or bytes i 0 < 256
-
-bytes_zeros : (k : ℕ) → IsBytes (replicate k 0)
-bytes_zeros zero i = omega arith
-bytes_zeros (suc k) zero = omega arith
-bytes_zeros (suc k) (suc i) = bytes_zeros k i
-
-pub bytes_padded : (bytes : List ℕ) (k : ℕ) → IsBytes bytes → IsBytes (bytes ++ replicate k 0)
-bytes_padded [] k are i = bytes_zeros k i
-bytes_padded (b ∷ bytes) k are zero = are 0
-bytes_padded (b ∷ bytes) k are (suc i) = bytes_padded bytes k (λ j. are (suc j)) i
-
-pub bytes_taken : (n : ℕ) (bytes : List ℕ) → IsBytes bytes → IsBytes (take n bytes)
-bytes_taken n bytes are i =
-    elim (cases_lt i n) [
-      | inl lt ↦ rw (get_or-take n bytes i 0 lt) (are i)
-      | inr le ↦ rw (get_or_past (take n bytes) i 0 (omega (arith, length-take n bytes))) (omega arith)
-    ]
-
 pub number_fits_4 : (bytes : List ℕ) → IsBytes bytes → from_be_bytes w32 bytes < 2 ^ 32
 number_fits_4 bytes are = omega (arith, are 0, are 1, are 2, are 3)
 
@@ -172,7 +153,7 @@ integer_fault rest place are short = (
     [],
     sym (append-nil (2 ∷ rest)),
     omega arith,
-    (replicate (8 - length rest) 0, integer_part (padded 8 rest) (length-padded 8 rest (omega (arith, short))) (bytes_padded rest (8 - length rest) are)),
+    (replicate (8 - length rest) 0, integer_part (padded 8 rest) (length-padded 8 rest (omega (arith, short))) (IsBytes-padded rest (8 - length rest) are)),
     no_integer rest short,
   ),
 )
@@ -181,7 +162,7 @@ pub integer_found : (z y : ℤ) (rest bytes left : List ℕ) → z ≡ y → Fit
     → IsValue (Int z) × (2 ∷ rest ≡ value_bytes (Int z) ++ left)
 unfolding value_bytes
 integer_found z y rest bytes left same fits are long first second number =
-    let bytes_are : IsBytes bytes = subst IsBytes (sym first) (bytes_taken 8 rest are) in
+    let bytes_are : IsBytes bytes = subst IsBytes (sym first) (IsBytes-take 8 rest are) in
     let eight : length bytes ≡ 8 = omega (arith, ap length first, length-take 8 rest, long) in
     let written : bytes_high_first 8 (turned z) ≡ bytes = ap (λ (n : ℤ). bytes_high_first 8 (turned n)) same ∙ be_bytes_8 bytes (turned y) eight bytes_are number in
     let all : rest ≡ bytes ++ left = sym (ap (λ (l : List ℕ). l ++ left) first ∙ ap (λ (l : List ℕ). take 8 rest ++ l) second ∙ take-append-drop 8 rest) in

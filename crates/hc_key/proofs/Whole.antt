@@ -17,7 +17,8 @@ use Rattle.hc_key.specs.Reading.{BeginsKey, NoKeyGoesOn, IsFaultAt, IsKeyFault, 
 use Rattle.hc_key.proofs.Bytes.{bytes_cmp, four_bytes}
 use Rattle.hc_key.proofs.Order.{values_compare, nothing_second}
 use Rattle.hc_key.proofs.Prefix.{TiesAreSame, both_tied}
-use Rattle.hc_key.proofs.Parts.{IsBytes, bytes_padded, bytes_taken, number_fits_4, padded, length-padded}
+use Rattle.hc_key.proofs.Parts.{number_fits_4, padded, length-padded}
+use Rattle.hc_range.proofs.ByteStrings.{IsBytes, IsBytes-padded, IsBytes-take}
 
 -- ---- bytes that begin with the same key
 
@@ -132,7 +133,7 @@ part_in_key ties t v key left place NoMemory tf are all some here h = tt
 pub tree_read : (t : ℕ) (key bytes rest : List ℕ) → IsBytes key → 4 ≤ length key → bytes ≡ take 4 key → rest ≡ drop 4 key → t ≡ from_be_bytes w32 bytes → key ≡ key_bytes t [] ++ rest
 unfolding key_bytes
 tree_read t key bytes rest are long first second number =
-    let bytes_are : IsBytes bytes = subst IsBytes (sym first) (bytes_taken 4 key are) in
+    let bytes_are : IsBytes bytes = subst IsBytes (sym first) (IsBytes-take 4 key are) in
     let four : length bytes ≡ 4 = omega (arith, ap length first, length-take 4 key, long) in
     let written : bytes_high_first 4 t ≡ bytes = be_bytes_4 bytes t four bytes_are number in
     sym (take-append-drop 4 key) ∙ sym (ap (λ (l : List ℕ). l ++ rest) (append-nil (bytes_high_first 4 t) ∙ written ∙ first) ∙ ap (λ (l : List ℕ). take 4 key ++ l) second)
@@ -144,7 +145,7 @@ length-key t v = length-append (bytes_high_first 4 t) (list_bytes v)
 begins_short : (key : List ℕ) → IsBytes key → length key < 4 → BeginsKey key
 unfolding key_bytes
 begins_short key are short =
-    let all : IsBytes (padded 4 key) = bytes_padded key (4 - length key) are in (
+    let all : IsBytes (padded 4 key) = IsBytes-padded key (4 - length key) are in (
       replicate (4 - length key) 0,
       (
         from_be_bytes w32 (padded 4 key),

@@ -1,6 +1,7 @@
 use Rattle.std.proofs.Common.{◌∙◌, arith, w64, FitsSigned, rules}
 use Rattle.std.proofs.lemmas.Int.{to_z-of_z}
-use Rattle.hc_key.proofs.Parts.{IsBytes, integer_fault, integer_found}
+use Rattle.hc_key.proofs.Parts.{integer_fault, integer_found}
+use Rattle.hc_range.proofs.ByteStrings.{IsBytes}
 use Rattle.hc_key.proofs.reader.integer_behind.Goals as goal
 
 pub returns-in_default-clause-fault : goal.returns-in_default-clause-fault

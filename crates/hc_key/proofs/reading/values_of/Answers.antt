@@ -1,6 +1,6 @@
 use Rattle.std.proofs.Common.{arith, length}
 use Rattle.std.proofs.lemmas.Result.{err_from_is_err_and}
-use Rattle.hc_key.proofs.Parts.{IsBytes}
+use Rattle.hc_range.proofs.ByteStrings.{IsBytes}
 use Rattle.hc_key.proofs.Whole.{tree_read, short_fault, no_fault}
 use Rattle.hc_key.specs.declared.fault.KeyFault.TheVariants.{Bad}
 use Rattle.hc_key.proofs.reading.values_of.Goals as goal
