@@ -1,27 +1,20 @@
 -- An integer is read as it was written, and what is read as one is how it is written.
-use Rattle.std.proofs.Common.{◌≡◌, ℕ, zero, suc, ◌+◌, ◌-◌, ◌*◌, ◌/◌, ◌%◌, ◌^◌, ◌<◌, ◌≤◌, ℤ, pos, negsuc, Bool, true, false, cond, List, [], ◌∷◌, length, get_or, refl, sym, ap, subst, ◌∙◌, arith, inl, inr, ◌⊎◌, w64, FitsSigned}
+use Rattle.std.proofs.Common.{◌≡◌, ℕ, zero, suc, ◌+◌, ◌-◌, ◌*◌, ◌/◌, ◌%◌, ◌^◌, ◌<◌, ◌≤◌, ℤ, pos, negsuc, Bool, true, false, cond, List, [], ◌∷◌, length, get_or, refl, ap, subst, ◌∙◌, arith, inl, inr, ◌⊎◌, w64, FitsSigned}
 use Rattle.std.specs.Prelude.{fold, ◌==◌}
 use Rattle.std.specs.Int.{cast_unsigned, cast_signed, bytes_high_first, byte_at}
-use Rattle.std.proofs.Math.Nat.{pow-suc, div-div-eq-div-mul}
 use Rattle.std.proofs.lemmas.Bool.{lt-ltb, le-ltb}
 use Rattle.std.proofs.lemmas.Nat.{shr_split}
 use Rattle.std.proofs.lemmas.Int.{to_z-of_z, of_z-to_z}
 use Rattle.hc_record.specs.Record.{body_len, type_of_magnitude, type_of_int}
 use Rattle.hc_record.specs.Reading.{bits_above, integer_of}
-use Rattle.hc_record.proofs.Steps.{either_way, IsBytes, IsBytes-rest}
+use Rattle.hc_range.proofs.ByteStrings.{IsBytes, IsBytes-rest, one_byte_more, byte_at-is}
+use Rattle.hc_record.proofs.Steps.{either_way}
 use Rattle.hc_record.proofs.Bounds.{byte_fits, bytes_fit, ones_fit, none_fit}
 
 abbrev pub behind_byte : ℕ → ℕ → ℕ
 behind_byte = λ high byte. high * 256 + byte
 
 -- ---- bytes and their number
-
-one_byte_more : (n k : ℕ) → n / 256 ^ suc k ≡ n / 256 ^ k / 256
-one_byte_more n k = ap (λ (p : ℕ). n / p) (pow-suc 256 k) ∙ sym (div-div-eq-div-mul n (256 ^ k) 256)
-
-byte_at-is : (k n : ℕ) → byte_at k n ≡ n / 256 ^ k % 256
-byte_at-is zero n = ap (λ (m : ℕ). m % 256) (let e : n ≡ n / 1 = omega arith in e)
-byte_at-is (suc k) n = refl
 
 number_again : (w n : ℕ) → fold behind_byte (n / 256 ^ w) (bytes_high_first w n) ≡ n
 number_again zero n = omega arith

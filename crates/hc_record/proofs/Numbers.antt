@@ -6,7 +6,8 @@ use Rattle.std.proofs.lemmas.List.{length-append}
 use Rattle.std.proofs.lemmas.Nat.{shr-shr, shr_split, shr_below, div_below}
 use Rattle.hc_record.specs.Varint.{varint_len, varint, marked, varint_behind}
 use Rattle.hc_record.specs.Reading.{number_at}
-use Rattle.hc_record.proofs.Steps.{either_way, chosen, IsBytes, IsBytes-rest}
+use Rattle.hc_range.proofs.ByteStrings.{IsBytes, IsBytes-rest}
+use Rattle.hc_record.proofs.Steps.{either_way, chosen}
 
 -- ---- how many bytes a number takes
 

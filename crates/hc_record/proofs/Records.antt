@@ -14,7 +14,8 @@ use Rattle.hc_record.specs.Varint.{varint, varint_len, marked, varint_behind}
 use Rattle.hc_value.specs.Values.{IsValue, AreValues}
 use Rattle.hc_record.specs.Record.{body_len, type_of_magnitude, type_of_int, type_of, body_of, types_of, bodies_of, header_len, encoding}
 use Rattle.hc_record.specs.Reading.{◌>>=◌, Gives, fault, number_among, number_at, is_bad, type_at, types_within, types_at, bits_above, integer_of, value_of, value_at, values_at, values_of_types, columns_at, record_at, reading}
-use Rattle.hc_record.proofs.Steps.{first_step, chosen, ok_same, IsBytes, IsBytes-drop, IsBytes-take}
+use Rattle.hc_range.proofs.ByteStrings.{IsBytes, IsBytes-drop, IsBytes-take}
+use Rattle.hc_record.proofs.Steps.{first_step, chosen, ok_same}
 use Rattle.hc_record.proofs.Numbers.{varint_len_is, number_again, IsFound, varint_found, length-varint, length-marked}
 use Rattle.hc_record.proofs.Integers.{behind_byte, integer_found, integer_again, bits_fit, int_body_len, type_of_magnitude_is, length-high_first}
 use Rattle.hc_record.proofs.Types.{Read, type_is_number, values_first, then_value, through, same_step, type_shortens}

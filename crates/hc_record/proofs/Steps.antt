@@ -1,7 +1,6 @@
--- Steps of a reading, choices by a test, and lists of bytes.
-use Rattle.std.proofs.Common.{◌≡◌, ℕ, suc, ◌+◌, ◌<◌, ◌≤◌, Bool, true, false, cond, List, ◌∷◌, get_or, take, drop, Result, Ok, Err, refl, ◌∙◌, arith, inl, inr, nat_lt, ◌⊎◌}
+-- Steps of a reading, and choices by a test.
+use Rattle.std.proofs.Common.{◌≡◌, ℕ, ◌<◌, ◌≤◌, Bool, true, false, cond, List, Result, Ok, Err, refl, ◌∙◌, inl, inr, nat_lt, ◌⊎◌}
 use Rattle.std.proofs.lemmas.Bool.{cases_lt, lt-ltb, le-ltb}
-use Rattle.std.proofs.lemmas.List.{length-take, get_or-drop, get_or-take, get_or_past}
 use Rattle.std.specs.Prelude.{is_ok, OnOk}
 use Rattle.hc_record.specs.declared.fault.RecordFault.{RecordFault}
 use Rattle.hc_record.specs.Reading.{◌>>=◌}
@@ -23,22 +22,6 @@ ok_same x y e = cc
 pub either_way : {A : Type 0} (P : A → Type 0) (n b : ℕ) (x y : A) → (n < b → P x) → (b ≤ n → P y) → P (cond (nat_lt n b) x y)
 either_way P n b x y below above =
     elim (cases_lt n b) [ inl lt ↦ rw (lt-ltb n b lt) (below lt) | inr le ↦ rw (le-ltb n b le) (above le) ]
-
-abbrev pub IsBytes : List ℕ → Type 0
-IsBytes bytes = (i : ℕ) → get_or bytes i 0 < 256
-
-pub IsBytes-drop : (n : ℕ) (bytes : List ℕ) → IsBytes bytes → IsBytes (drop n bytes)
-IsBytes-drop n bytes fits i = rw get_or-drop (fits (n + i))
-
-pub IsBytes-take : (n : ℕ) (bytes : List ℕ) → IsBytes bytes → IsBytes (take n bytes)
-IsBytes-take n bytes fits i =
-    elim (cases_lt i n) [
-      | inl lt ↦ rw (get_or-take n bytes i 0 lt) (fits i)
-      | inr le ↦ rw (get_or_past (take n bytes) i 0 (omega (arith, length-take n bytes))) (omega arith)
-    ]
-
-pub IsBytes-rest : (b : ℕ) (bytes : List ℕ) → IsBytes (b ∷ bytes) → IsBytes bytes
-IsBytes-rest b bytes fits i = fits (suc i)
 
 -- what holds where a call went through, from what it left either way
 pub on_ok : {T E : Type 0} (r : Result T E) (x a b c : List ℕ) → x ≡ cond (is_ok r) a b → a ≡ c → OnOk r (x ≡ c)

@@ -12,7 +12,8 @@ use Rattle.hc_record.specs.Varint.{varint_len, varint_behind}
 use Rattle.hc_record.specs.Record.{body_len, type_of_int, header_len, encoding}
 use Rattle.hc_record.specs.Reading.{◌>>=◌, fault, number_among, number_at, is_bad, type_at, types_within, types_at, integer_of, value_of, value_at, values_at, values_of_types, columns_at, record_at, reading}
 use Rattle.hc_record.specs.Laws.{HasTail}
-use Rattle.hc_record.proofs.Steps.{IsBytes, chosen}
+use Rattle.hc_range.proofs.ByteStrings.{IsBytes}
+use Rattle.hc_record.proofs.Steps.{chosen}
 use Rattle.hc_record.proofs.Types.{Read}
 use Rattle.hc_record.proofs.Records.{record_found, record_again}
 
