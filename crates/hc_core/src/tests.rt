@@ -1,6 +1,6 @@
-// Runs of the machine with the answers that its table gives, worked out by hand. A key is one byte, and a record
-// one byte or none, in hexadecimal; an upper end of 0 stands for none.
-ghost use Rattle.std.specs.Prelude.{◌≡◌, [], ◌∷◌, IfOk};
+// Runs of the machine with the answers that its table gives, worked out by hand. Keys and records are written as
+// numbers in hexadecimal: one to four bytes, the first one not 0. An upper end of 0 stands for none.
+ghost use Rattle.std.specs.Prelude.{◌≤◌, IfOk, length};
 ghost use Rattle.hc_core.specs.Kept.{PutsShortKey};
 
 use crate::{Core, Event, NoMemory, Outcome};
@@ -12,28 +12,34 @@ use std::test::Fail;
 enum Do {
     Begin(u32),
     Draw(u32, u32),
-    Read(u32, u8, u8),
-    Put(u32, u8, u8),
-    PutEmpty(u32, u8),
-    PutTombstone(u32, u8),
+    Read(u32, u32, u32),
+    Put(u32, u32, u32),
+    PutEmpty(u32, u32),
+    PutTombstone(u32, u32),
     Propose(u32),
-    Check(u32, u8, u8),
+    Check(u32, u32, u32),
     Decide(u32),
-    Unput(u32, u8),
+    Unput(u32, u32),
     End(u32),
-    Purge(u8),
+    Purge(u32),
 }
 
-fn byte(alloc: Global, byte: u8) -> Result<Bytes, NoMemory>
-    ensures { IfOk result (λ bytes. bytes ≡ byte ∷ []) }
+fn bytes(alloc: Global, number: u32) -> Result<Bytes, NoMemory>
+    ensures { IfOk result (λ bytes. length bytes ≤ 463) }
 {
-    Bytes::from_slice(alloc, &[byte])
+    let zeros = match number {
+        0..=0xff => 3,
+        0x100..=0xffff => 2,
+        0x1_0000..=0xff_ffff => 1,
+        _ => 0,
+    };
+    Bytes::from_slice(alloc, &number.to_be_bytes()[zeros..])
 }
 
-fn end(alloc: Global, end: u8) -> Result<Option<Bytes>, NoMemory> {
+fn end(alloc: Global, end: u32) -> Result<Option<Bytes>, NoMemory> {
     match end {
         0 => Ok(None),
-        end => Ok(Some(byte(alloc, end)?)),
+        end => Ok(Some(bytes(alloc, end)?)),
     }
 }
 
@@ -45,44 +51,47 @@ fn event(alloc: Global, what: Do) -> Result<Event, NoMemory>
         Do::Draw(conn, ord) => Event::Draw { conn, ord },
         Do::Read(conn, from, upto) => Event::Read {
             conn,
-            from: byte(alloc, from)?,
+            from: bytes(alloc, from)?,
             upto: end(alloc, upto)?,
         },
         Do::Put(conn, key, rec) => Event::Put {
             conn,
-            key: byte(alloc, key)?,
-            rec: Some(byte(alloc, rec)?),
+            key: bytes(alloc, key)?,
+            rec: Some(bytes(alloc, rec)?),
         },
         Do::PutEmpty(conn, key) => Event::Put {
             conn,
-            key: byte(alloc, key)?,
+            key: bytes(alloc, key)?,
             rec: Some(Bytes::from_slice(alloc, &[])?),
         },
         Do::PutTombstone(conn, key) => Event::Put {
             conn,
-            key: byte(alloc, key)?,
+            key: bytes(alloc, key)?,
             rec: None,
         },
         Do::Propose(conn) => Event::Propose { conn },
         Do::Check(conn, from, upto) => Event::Check {
             conn,
-            from: byte(alloc, from)?,
+            from: bytes(alloc, from)?,
             upto: end(alloc, upto)?,
         },
         Do::Decide(conn) => Event::Decide { conn },
         Do::Unput(conn, key) => Event::Unput {
             conn,
-            key: byte(alloc, key)?,
+            key: bytes(alloc, key)?,
         },
         Do::End(conn) => Event::End { conn },
         Do::Purge(key) => Event::Purge {
-            key: byte(alloc, key)?,
+            key: bytes(alloc, key)?,
         },
     })
 }
 
-fn first(bytes: &[u8]) -> u8 {
-    bytes.first().copied().unwrap_or(0)
+fn push_bytes(alloc: Global, text: &mut String, bytes: &[u8]) -> Result<(), Fail> {
+    for byte in bytes {
+        text.push_str(format!(in alloc; "{byte:02x}")?.as_str())?;
+    }
+    Ok(())
 }
 
 fn answer(alloc: Global, outcome: &Outcome) -> Result<String, Fail> {
@@ -93,20 +102,17 @@ fn answer(alloc: Global, outcome: &Outcome) -> Result<String, Fail> {
         Outcome::Cells(part) => {
             let mut text = format!(in alloc; "cells")?;
             for cell in part.cells.as_slice() {
-                let key = first(cell.key.as_slice());
-                text.push_str(format!(in alloc; " {key:02x}=")?.as_str())?;
-                for byte in cell.rec.as_slice() {
-                    text.push_str(format!(in alloc; "{byte:02x}")?.as_str())?;
-                }
+                text.push_str(" ")?;
+                push_bytes(alloc, &mut text, cell.key.as_slice())?;
+                text.push_str("=")?;
+                push_bytes(alloc, &mut text, cell.rec.as_slice())?;
             }
             text
         }
         Outcome::Met(met) => {
-            let key = first(met.key.as_slice());
-            format!(in alloc;
-                "met {} of {}.{} at {key:02x}",
-                met.tid.0, met.conn, met.ord
-            )?
+            let mut text = format!(in alloc; "met {} of {}.{} at ", met.tid.0, met.conn, met.ord)?;
+            push_bytes(alloc, &mut text, met.key.as_slice())?;
+            text
         }
         Outcome::Proposed(number) => format!(in alloc; "proposed {}", number.0)?,
         Outcome::Lost(lost) => format!(in alloc; "lost {} to {}", lost.cid.0, lost.other.0)?,
@@ -528,6 +534,91 @@ const AN_EMPTY_COMMIT: Run = Run {
     ],
 };
 
+// Keys and records of two bytes and more are put, read by another connection, met and checked as those of one are.
+// A key stands before each longer one that begins with it.
+const SEVERAL_BYTES: Run = Run {
+    others: 2,
+    events: &[
+        (Do::Begin(0), "began 0"),
+        (Do::Begin(1), "began 0"),
+        (Do::Read(1, 0x6162, 0x6163), "cells"),
+        (Do::Draw(0, 1), "drew 1"),
+        (Do::Put(0, 0x6162, 0x0a0b), "done"),
+        (Do::Put(0, 0x616263, 0x0c0d0e), "done"),
+        (Do::PutTombstone(0, 0x6200), "done"),
+        (Do::Propose(0), "proposed 1"),
+        (Do::Decide(0), "decided 1"),
+        (Do::End(0), "done"),
+        (Do::Begin(2), "began 1"),
+        (Do::Read(2, 0x61, 0), "cells 6162=0a0b 616263=0c0d0e"),
+        (Do::Read(2, 0x6162, 0x616263), "cells 6162=0a0b"),
+        (Do::Read(2, 0x61620001, 0x6163), "cells 616263=0c0d0e"),
+        (Do::Draw(1, 1), "drew 2"),
+        (Do::Put(1, 0x6162, 0x0f0f), "met 1 of 0.1 at 6162"),
+        (Do::Put(1, 0x6161, 0x0f0f), "done"),
+        (Do::Propose(1), "proposed 2"),
+        (Do::Check(1, 0x6162, 0x6163), "met 1 of 0.1 at 6162"),
+        (Do::Check(1, 0x616200, 0x616263), "done"),
+        (Do::Check(1, 0x6163, 0), "met 1 of 0.1 at 6200"),
+        (Do::Unput(1, 0x6161), "done"),
+        (Do::End(1), "done"),
+        (Do::Purge(0x6162), "not now"),
+        (Do::Purge(0x6200), "done"),
+        (Do::Draw(2, 1), "drew 3"),
+        (Do::Put(2, 0x61626364, 0x10203040), "done"),
+        (Do::Begin(0), "began 1"),
+        (Do::Draw(0, 2), "drew 4"),
+        (Do::Put(0, 0x61626364, 0x50), "met 3 of 2.1 at 61626364"),
+        (Do::Put(0, 0x616263, 0x50607080), "done"),
+        (Do::Propose(0), "proposed 2"),
+        (Do::Decide(0), "decided 2"),
+        (Do::Begin(1), "began 2"),
+        (
+            Do::Read(1, 0x6162, 0x6163),
+            "cells 6162=0a0b 616263=50607080",
+        ),
+    ],
+};
+
+// The last of four connections begins, puts and commits, and what it put is met. There is none behind it.
+const FOUR_CONNECTIONS: Run = Run {
+    others: 3,
+    events: &[
+        (Do::Begin(3), "began 0"),
+        (Do::Begin(0), "began 0"),
+        (Do::Draw(3, 1), "drew 1"),
+        (Do::Put(3, 0x61, 1), "done"),
+        (Do::Draw(0, 1), "drew 2"),
+        (Do::Put(0, 0x61, 2), "met 1 of 3.1 at 61"),
+        (Do::Propose(3), "proposed 1"),
+        (Do::Decide(3), "decided 1"),
+        (Do::Put(0, 0x61, 2), "met 1 of 3.1 at 61"),
+        (Do::Begin(1), "began 1"),
+        (Do::Read(1, 0x61, 0), "cells 61=01"),
+        (Do::Begin(3), "not now"),
+        (Do::End(3), "done"),
+        (Do::Begin(3), "began 1"),
+        (Do::Draw(3, 1), "not now"),
+        (Do::Draw(3, 2), "drew 3"),
+        (Do::Begin(4), "not now"),
+    ],
+};
+
+// So it is with 256 connections.
+const MANY_CONNECTIONS: Run = Run {
+    others: 255,
+    events: &[
+        (Do::Begin(255), "began 0"),
+        (Do::Draw(255, 1), "drew 1"),
+        (Do::Put(255, 0x61, 1), "done"),
+        (Do::Propose(255), "proposed 1"),
+        (Do::Decide(255), "decided 1"),
+        (Do::Begin(0), "began 1"),
+        (Do::Read(0, 0x61, 0), "cells 61=01"),
+        (Do::Begin(256), "not now"),
+    ],
+};
+
 #[test]
 fn each_event_is_answered_by_the_table(rt: HostRuntime) -> Result<(), Fail> {
     let alloc = rt.alloc();
@@ -549,6 +640,9 @@ fn each_event_is_answered_by_the_table(rt: HostRuntime) -> Result<(), Fail> {
         UNDECIDED_ABOVE_A_COMMIT,
         ONLY_EMPTY_PARTS,
         AN_EMPTY_COMMIT,
+        SEVERAL_BYTES,
+        FOUR_CONNECTIONS,
+        MANY_CONNECTIONS,
     ];
     for run in runs {
         let mut core = Core::new(alloc, u32::from(run.others) + 1)?;
