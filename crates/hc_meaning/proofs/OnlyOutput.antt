@@ -13,7 +13,7 @@ serial : (input output : List ℕ) → IsRightOutput input output → (statement
 serial input output right =
     let (statements, is_script, within, few, are) = right.is_input in
     let run = subst (λ (scripts : List Script). IsRightRun scripts right.transcripts) are right.is_run in
-    (statements, is_script, right.is_output ∙ ap output_text (only-right statements right.transcripts run))
+    (statements, is_script, right.is_output.1 ∙ ap output_text (only-right statements right.transcripts run))
 
 pub only-output : (input one other : List ℕ) → IsRightOutput input one → IsRightOutput input other → one ≡ other
 only-output input one other first second =

@@ -4,7 +4,7 @@ use Rattle.std.specs.List.Sorted.{IsStrictlyIncreasing}
 use Rattle.hc_reply.specs.declared.reply.Ending.{Ending}
 use Rattle.hc_reply.specs.declared.reply.Ending.TheVariants.{Commit, Snapshot, RolledBack}
 use Rattle.hc_reply.specs.declared.reply.Transcript.{Transcript}
-use Rattle.hc_reply.specs.Output.{output_text}
+use Rattle.hc_reply.specs.Reading.{IsTextOf}
 use Rattle.hc_meaning.specs.declared.transaction.Script.{Script}
 use Rattle.hc_meaning.specs.declared.transaction.Transaction.{Transaction}
 use Rattle.hc_meaning.specs.Run.{WritesNone}
@@ -60,10 +60,11 @@ pub record IsRightRun (scripts : List Script) (transcripts : List Transcript) : 
   pub others : (t : Transaction) → Contains transactions t → IsReadUnlessCommitted history t t.ending
   pub in_order : IsInOrder transactions history
 
--- The output is the text of transcripts that are right for the scripts of the input.
+-- The output is the text of transcripts that are right for the scripts of the input. They are transcripts that an
+-- output can have, so no others have this text.
 pub record IsRightOutput (input output : List ℕ) : Type 0 where
   pub scripts : List Script
   pub is_input : IsInput input scripts
   pub transcripts : List Transcript
-  pub is_output : output ≡ output_text transcripts
+  pub is_output : IsTextOf output transcripts
   pub is_run : IsRightRun scripts transcripts

@@ -1,6 +1,7 @@
 mod Absent
 mod Numbers
 mod Outcomes
+mod Printed
 mod Progress
 mod Right
 mod Selected

@@ -1,7 +1,7 @@
 -- From what was read to what the whole input is: it is a right output's input, or none.
 use Rattle.std.proofs.Common.{◌≡◌, ◌∙◌, ap, sym, subst, ℕ, ◌≤◌, List, [], ◌++◌, length, Option, Some, None, refl, arith, ⊎_elim, length-append}
 use Rattle.std.proofs.lemmas.List.{append-nil}
-use Rattle.hc_reply.specs.Output.{output_text}
+use Rattle.hc_reply.specs.Reading.{IsTextOf}
 use Rattle.hc_meaning.specs.declared.statement.Statement.{Statement}
 use Rattle.hc_meaning.specs.Input.{BreaksForm, IsInput, IsScript}
 use Rattle.hc_meaning.specs.Played.{played_alone}
@@ -20,7 +20,7 @@ read_whole left rest input reads within =
     (λ most. absurd (omega (arith, within, most)))
     reads.all_or_most
 
-right_alone : (input output : List ℕ) (statements : List Statement) → IsScript input statements → length input ≤ 16777216 → length statements ≤ 65535 → output ≡ output_text (played_alone statements) → IsRightOutput input output
+right_alone : (input output : List ℕ) (statements : List Statement) → IsScript input statements → length input ≤ 16777216 → length statements ≤ 65535 → IsTextOf output (played_alone statements) → IsRightOutput input output
 right_alone input output statements script bytes many is = record {
   scripts = setup_of statements;
   is_input = (statements, script, bytes, many, refl);
@@ -30,7 +30,7 @@ right_alone input output statements script bytes many is = record {
 }
 
 module _ (input output : List ℕ) (statements : List Statement) (script : IsScript input statements) (bytes : length input ≤ 16777216) where
-  pub right_if_told : (left after : Option (List ℕ)) → ReadsAllOrMostIfTold left after input → length statements ≤ 65535 → output ≡ output_text (played_alone statements) → IsRightOutputIfTold left output
+  pub right_if_told : (left after : Option (List ℕ)) → ReadsAllOrMostIfTold left after input → length statements ≤ 65535 → IsTextOf output (played_alone statements) → IsRightOutputIfTold left output
   right_if_told None after reads many is = tt
   right_if_told (Some left) None reads many is = absurd reads
   right_if_told (Some left) (Some rest) reads many is =
