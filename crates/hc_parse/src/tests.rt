@@ -260,7 +260,7 @@ fn two_operators_group_by_their_levels(rt: HostRuntime) -> Result<(), Fail> {
     all_read(&rt, rt.alloc(), &PAIRS)
 }
 
-const QUERIES: [(&str, &str); 14] = [
+const QUERIES: [(&str, &str); 17] = [
     (
         "select distinct *, t.* from t",
         "SELECT DISTINCT * , \"t\" . * FROM \"t\"",
@@ -286,6 +286,10 @@ const QUERIES: [(&str, &str); 14] = [
         "SELECT 1 FROM \"t\" JOIN \"u\" JOIN \"v\"",
     ),
     (
+        "select 1 from t inner join u on a cross join v on b",
+        "SELECT 1 FROM \"t\" JOIN \"u\" ON \"a\" JOIN \"v\" ON \"b\"",
+    ),
+    (
         "select 1 from t left join u",
         "SELECT 1 FROM \"t\" AS \"left\" JOIN \"u\"",
     ),
@@ -298,6 +302,7 @@ const QUERIES: [(&str, &str); 14] = [
         "SELECT 1 FROM \"t\" WHERE ( \"a\" AND \"b\" )",
     ),
     ("select 1 where 2", "SELECT 1 WHERE 2"),
+    ("select a group by a", "SELECT \"a\" GROUP BY \"a\""),
     (
         "select 1 group by a, b + 1 having c",
         "SELECT 1 GROUP BY \"a\" , ( \"b\" + 1 ) HAVING \"c\"",
@@ -307,6 +312,7 @@ const QUERIES: [(&str, &str); 14] = [
         "SELECT \"a\" ORDER BY 1 ASC , 2 ASC , ( + 3 ) ASC , \"a\" DESC , \"b\" ASC",
     ),
     ("select a limit 0", "SELECT \"a\" LIMIT 0"),
+    ("select a limit 5 offset 6", "SELECT \"a\" LIMIT 5 OFFSET 6"),
     (
         "select a limit -9223372036854775808 offset - 2",
         "SELECT \"a\" LIMIT - 9223372036854775808 OFFSET - 2",
@@ -336,7 +342,7 @@ const CHANGES: [(&str, &str); 8] = [
     ("delete from count", "DELETE FROM \"count\""),
 ];
 
-const SCHEMAS: [(&str, &str); 9] = [
+const SCHEMAS: [(&str, &str); 11] = [
     (
         "create table t (a integer) strict",
         "CREATE TABLE \"t\" ( \"a\" INTEGER ) STRICT",
@@ -352,6 +358,14 @@ const SCHEMAS: [(&str, &str); 9] = [
     (
         "create index i on t (a)",
         "CREATE INDEX \"i\" ON \"t\" ( \"a\" )",
+    ),
+    (
+        "create unique index i on t (a)",
+        "CREATE UNIQUE INDEX \"i\" ON \"t\" ( \"a\" )",
+    ),
+    (
+        "create index if not exists i on t (a)",
+        "CREATE INDEX IF NOT EXISTS \"i\" ON \"t\" ( \"a\" )",
     ),
     (
         "create unique index if not exists i on t (a, b)",
@@ -604,15 +618,24 @@ fn no_level_opens_behind_the_last(rt: HostRuntime) -> Result<(), Fail> {
 }
 
 // What stands behind 1,000 operators, and the answer.
-const LONGEST: [(&str, &str); 10] = [
+const LONGEST: [(&str, &str); 19] = [
     (" FROM", "syntax 2013"),
+    (" OR 1", "deep 2009"),
+    (" AND 1", "deep 2009"),
+    ("=1", "deep 2008"),
+    ("<1", "deep 2008"),
     ("+1", "deep 2008"),
+    ("*1", "deep 2008"),
+    ("||1", "deep 2008"),
     (" NOT 5", "syntax 2013"),
     (" NOT", "syntax 2012"),
     (" NOT IN (1)", "deep 2009"),
     (" NOT LIKE 1", "deep 2009"),
+    (" NOT BETWEEN 1 AND 2", "deep 2009"),
     (" IN (1)", "deep 2009"),
+    (" LIKE 1", "deep 2009"),
     (" BETWEEN 1 AND 2", "deep 2009"),
+    (" IS 1", "deep 2009"),
     (" IS NOT 1", "deep 2009"),
     (", -1+1 WHERE (1+1", "syntax 2025"),
 ];
