@@ -29,7 +29,7 @@ IsUnlessNoMemory found answer = found ≡ answer
 abbrev pub HasOneStatement : Type 0
 HasOneStatement = (within : Limits) (lexemes : List Lexeme) (one other : Stmt) → Statement within one lexemes → Statement within other lexemes → one ≡ other
 
--- tokens have one fault of least place at most, and no statement has one
+-- tokens have one fault of least place at most
 abbrev pub HasOneFault : Type 0
 HasOneFault = (text : List ℕ) (tokens : List Token) (one other : ParseFault) → HasFault text tokens one → HasFault text tokens other → one ≡ other
 

@@ -1,6 +1,12 @@
 //! The statements of SQL that the grammar has, read from their tokens.
 //!
-//! `specs/` has the grammar as a derivation: which token lists are which statement, apart from any parser.
+//! `parse` answers the statement that the tokens of a text are, or their fault: the place of the first token with
+//! which no statement goes on (`Syntax`), or of the first of what there is no room for (`TooDeep`). It has no other
+//! answer but `NoMemory`, where an allocation is refused.
+//!
+//! At most 100 levels may be open at once. An expression that is part of no other may have 1,000 operators, and FROM
+//! 8 tables. `specs/` has the grammar as a derivation, apart from the parser, and `laws` what holds of it: tokens are
+//! one statement or have one fault, and canonical text is read as its statement again, or is too deep.
 #![tactic(auto)]
 
 mod changes;
