@@ -12,8 +12,8 @@ use crate::kinds::{begins, begins_any};
 use crate::levels::{Level, first_kinds, tighter};
 use crate::names::read_name;
 use crate::operands::{
-    begins_least, begins_literal, begins_name, between, binary, call, column_of, like, negation,
-    one_of, read_literal, read_operator, signed,
+    begins_least, begins_literal, begins_name, begins_sign, between, binary, call, column_of, like,
+    negation, one_of, read_literal, read_operator, signed,
 };
 use crate::rest::{Rest, behind_first};
 use crate::skips::{begins_word, charge, open, skip, skip_if, skip_word};
@@ -26,14 +26,6 @@ use std::alloc::Global;
 
 /// How many levels may be open at once.
 const LEVELS: u32 = 100;
-
-/// The operators of the level of `=` that are one token.
-const EQUALITY_SIGNS: [TokenKind; 4] = [
-    TokenKind::Equal,
-    TokenKind::DoubleEqual,
-    TokenKind::LessGreater,
-    TokenKind::NotEqual,
-];
 
 /// How many operators with two sides an expression may have.
 const OPERATORS: u32 = 1000;
@@ -111,7 +103,7 @@ fn read_step<'a>(
     requires { IsChain level }
     ensures { Gives result (read_of (step_reader levels level left) (limits_of levels) rest.entry) }
 {
-    if level == Level::Equality && !begins_any(rest.pieces, &EQUALITY_SIGNS) {
+    if level == Level::Equality && !begins_sign(level, rest) {
         return read_word_step(alloc, left, levels, rest);
     }
     let (op, rest) = read_operator(level, rest)?;

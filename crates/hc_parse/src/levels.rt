@@ -1,7 +1,8 @@
 // The levels of operators, from the loosest to the tightest.
 ghost use Rattle.std.specs.Prelude.{◌≡◌, map};
+ghost use Rattle.hc_parse.specs.Kinds.{among};
 ghost use Rattle.hc_parse.specs.Levels.{tighter_than, signs_of, kinds_of};
-ghost use Rattle.hc_parse.specs.Literals.{sign_of};
+ghost use Rattle.hc_parse.specs.Literals.{sign_of, sign_kinds};
 ghost use Rattle.hc_parse.specs.Seen.{lexeme_of};
 
 use crate::kinds::is_kind;
@@ -123,6 +124,16 @@ pub fn first_kinds(level: Level) -> &'static [TokenKind]
         Level::Product => &[TokenKind::Star, TokenKind::Slash, TokenKind::Percent],
         Level::Concatenation => &[TokenKind::DoubleBar],
         Level::Negated | Level::Unary => &[],
+    }
+}
+
+/// Whether a token is one of these operators.
+pub fn is_sign(piece: &Piece<'_>, signs: &[(TokenKind, BinaryOp)]) -> bool
+    ensures { result ≡ among (sign_kinds signs.now) (lexeme_of piece.now) }
+{
+    match signs.split_first() {
+        Some((sign, others)) => is_kind(piece, sign.0) || is_sign(piece, others),
+        None => false,
     }
 }
 

@@ -3,7 +3,7 @@ ghost use Rattle.std.specs.Prelude.{◌≡◌, if◌then◌else◌, IfOk};
 ghost use Rattle.hc_ast.specs.declared.expression.Expr.TheVariants as expr;
 ghost use Rattle.hc_parse.specs.Limits.{limits};
 ghost use Rattle.hc_parse.specs.Kinds.{among, head_is};
-ghost use Rattle.hc_parse.specs.Literals.{literal_of, is_least, sign_of};
+ghost use Rattle.hc_parse.specs.Literals.{literal_of, is_least, sign_of, sign_kinds};
 ghost use Rattle.hc_parse.specs.Readers.{made, one};
 ghost use Rattle.hc_parse.specs.ReadingExpressions.{name_kinds, literal_kinds};
 ghost use Rattle.hc_parse.specs.Levels.{signs_of};
@@ -11,7 +11,7 @@ ghost use Rattle.hc_parse.specs.Seen.{seen};
 ghost use Rattle.hc_parse.specs.Coded.{Gives, read_of};
 
 use crate::kinds::begins_any;
-use crate::levels::{Level, sign_of, signs};
+use crate::levels::{Level, is_sign, sign_of, signs};
 use crate::lexeme::{is_least, literal_of};
 use crate::rest::{Rest, behind_first};
 use crate::stop::{Stop, unexpected};
@@ -31,6 +31,16 @@ pub fn read_operator(level: Level, rest: Rest<'_>) -> Result<(BinaryOp, Rest<'_>
             None => unexpected(rest),
         },
         None => unexpected(rest),
+    }
+}
+
+/// Whether an operator of a level that is one token stands first.
+pub fn begins_sign(level: Level, rest: Rest<'_>) -> bool
+    ensures { result ≡ head_is (among (sign_kinds (signs_of level))) (seen rest.entry.pieces.now) }
+{
+    match rest.pieces.first() {
+        Some(first) => is_sign(first, signs(level)),
+        None => false,
     }
 }
 
