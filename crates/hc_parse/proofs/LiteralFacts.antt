@@ -1,8 +1,7 @@
 -- The reader of a literal reads exactly the literals.
-use Rattle.std.proofs.Common.{◌≡◌, ◌∙◌, ap, ℕ, pos, negsuc, ◌^◌, ◌<◌, nat_lt, List, [], ◌∷◌, Bool, true, false, Option, Some, None, sym, refl, subst, arith}
+use Rattle.std.proofs.Common.{◌≡◌, ◌∙◌, ap, ℕ, ℤ, pos, negsuc, ◌^◌, ◌<◌, nat_lt, ◌&&◌, List, [], ◌∷◌, Bool, true, false, Option, Some, None, sym, refl, subst, arith}
 use Rattle.std.specs.Prelude.{if◌then◌else◌}
-use Rattle.std.proofs.lemmas.Bool.{eqb-true}
-use Rattle.std.proofs.lemmas.Bool.Decides.{nat_tests}
+use Rattle.std.proofs.lemmas.Bool.{eqb-true, ltb-true, lt-ltb}
 use Rattle.hc_lex.specs.declared.token.TokenKind.{TokenKind}
 use Rattle.hc_lex.specs.declared.token.TokenKind.TheVariants as kind
 use Rattle.hc_lex.specs.declared.keyword.Keyword.TheVariants as word
@@ -19,16 +18,10 @@ use Rattle.hc_parse.specs.Rules.{OneOf}
 use Rattle.hc_parse.specs.Literals.{also, unquoted, blob_of, number_of, integer_of, literal_of}
 use Rattle.hc_parse.specs.ReadingExpressions.{literal_kinds}
 use Rattle.hc_parse.proofs.KindNumbers.{kind_is}
+use Rattle.hc_parse.proofs.KindLists.{each_of}
 use Rattle.hc_parse.proofs.Unquoted.{unquoted_is, unquoted_has, also_some, some_same}
 use Rattle.hc_parse.proofs.Simple.{one_reaches, one_sounds, one_sticks}
 use Rattle.hc_parse.proofs.RuleChanges.{same_reaches, same_sounds, same_sticks}
-
--- a test of numbers
-lt_of : (a b : ℕ) → nat_lt a b ≡ true → a < b
-lt_of a b t = grind (arith, nat_tests)
-
-of_lt : (a b : ℕ) → a < b → nat_lt a b ≡ true
-of_lt a b h = grind (arith, nat_tests)
 
 -- integers are told by their number
 pub integer_kind : (k : TokenKind) → kind_number k ≡ 2 → k ≡ kind.Integer (number_of k)
@@ -62,37 +55,39 @@ integer_kind (kind.Keyword w) h = absurd (omega (arith, h))
 pub number_has : (lexeme : Lexeme) → is (kind.Integer 0) lexeme ≡ true → lexeme.kind ≡ kind.Integer (number_of lexeme.kind)
 number_has lexeme t = integer_kind lexeme.kind (eqb-true (kind_number lexeme.kind) 2 t)
 
-small_integer : (lexeme : Lexeme) (n : ℕ) → lexeme.kind ≡ kind.Integer (number_of lexeme.kind) → (test : Bool) → nat_lt (number_of lexeme.kind) (2 ^ 63) ≡ test
-    → (if test then Some (number_of lexeme.kind) else None) ≡ Some n → (lexeme.kind ≡ kind.Integer n) × (n < 2 ^ 63)
-small_integer lexeme n is_kind true t e =
-    let same = some_same (number_of lexeme.kind) n e in
-    (is_kind ∙ ap (λ (x : ℕ). kind.Integer x) same, subst (λ (x : ℕ). x < 2 ^ 63) same (lt_of (number_of lexeme.kind) (2 ^ 63) t))
-small_integer lexeme n is_kind false t e = absurd (cc)
+-- the number of an integer that passes a test
+pub has_by : (lexeme : Lexeme) (of : ℕ → ℤ) (small test : Bool) (x : ℤ) → (is (kind.Integer 0) lexeme && small) ≡ test → (if test then Some (of (number_of lexeme.kind)) else None) ≡ Some x
+    → (x ≡ of (number_of lexeme.kind)) × (lexeme.kind ≡ kind.Integer (number_of lexeme.kind)) × (small ≡ true)
+has_by lexeme of small true x passes e =
+    let parts = each_of (is (kind.Integer 0) lexeme) small passes in
+    (sym (some_same (of (number_of lexeme.kind)) x e), number_has lexeme parts.0, parts.1)
+has_by lexeme of small false x passes e = absurd (cc)
 
-an_integer : (lexeme : Lexeme) (n : ℕ) (test : Bool) → is (kind.Integer 0) lexeme ≡ test
-    → (if test then (if nat_lt (number_of lexeme.kind) (2 ^ 63) then Some (number_of lexeme.kind) else None) else None) ≡ Some n → (lexeme.kind ≡ kind.Integer n) × (n < 2 ^ 63)
-an_integer lexeme n true t e = small_integer lexeme n (number_has lexeme t) (nat_lt (number_of lexeme.kind) (2 ^ 63)) refl e
-an_integer lexeme n false t e = absurd (cc)
+-- what is found as an integer is one below the limit
+pub integer_has : (lexeme : Lexeme) (x : ℤ) → integer_of lexeme ≡ Some x → (n : ℕ) × (x ≡ pos n) × (lexeme.kind ≡ kind.Integer n) × (n < 2 ^ 63)
+integer_has lexeme x e =
+    let n : ℕ = number_of lexeme.kind in
+    let h = has_by lexeme (λ i. pos i) (nat_lt n (2 ^ 63)) (is (kind.Integer 0) lexeme && nat_lt n (2 ^ 63)) x refl e in
+    (n, h.0, h.1, ltb-true n (2 ^ 63) h.2)
 
-pub integer_has : (lexeme : Lexeme) (n : ℕ) → integer_of lexeme ≡ Some n → (lexeme.kind ≡ kind.Integer n) × (n < 2 ^ 63)
-integer_has lexeme n e = an_integer lexeme n (is (kind.Integer 0) lexeme) refl e
-
-pub integer_is : (lexeme : Lexeme) (n : ℕ) → lexeme.kind ≡ kind.Integer n → n < 2 ^ 63 → integer_of lexeme ≡ Some n
+-- an integer below the limit is found
+pub integer_is : (lexeme : Lexeme) (n : ℕ) → lexeme.kind ≡ kind.Integer n → n < 2 ^ 63 → integer_of lexeme ≡ Some (pos n)
 integer_is lexeme n h small =
-    ap (λ (k : TokenKind). integer_of (record { kind = k; text = lexeme.text })) h ∙ ap (λ t. if t then Some n else None) (of_lt n (2 ^ 63) small)
+    ap (λ (k : TokenKind). integer_of (record { kind = k; text = lexeme.text })) h ∙ ap (λ t. if t then Some (pos n) else None) (lt-ltb n (2 ^ 63) small)
 
 -- which literal stands there
 blob_literal : (lexeme : Lexeme) (v : Value) (test : Bool) → is kind.Blob lexeme ≡ test
-    → (if test then also Blob (blob_of lexeme.text) else also (λ n. Int (pos n)) (integer_of lexeme)) ≡ Some v → IsLiteral lexeme v
+    → (if test then also Blob (blob_of lexeme.text) else also Int (integer_of lexeme)) ≡ Some v → IsLiteral lexeme v
 blob_literal lexeme v true t e =
     let h = also_some Blob (blob_of lexeme.text) v e in
     subst (λ (x : Value). IsLiteral lexeme x) (sym h.2) (kind_is kind.Blob lexeme refl t, blob_has lexeme.text h.0 h.1)
 blob_literal lexeme v false t e =
-    let h = also_some (λ (n : ℕ). Int (pos n)) (integer_of lexeme) v e in
-    subst (λ (x : Value). IsLiteral lexeme x) (sym h.2) (integer_has lexeme h.0 h.1)
+    let h = also_some Int (integer_of lexeme) v e in
+    let n = integer_has lexeme h.0 h.1 in
+    subst (λ (x : Value). IsLiteral lexeme x) (sym (h.2 ∙ ap (λ (i : ℤ). Int i) n.1)) (n.2, n.3)
 
 text_literal : (lexeme : Lexeme) (v : Value) (test : Bool) → is kind.Text lexeme ≡ test
-    → (if test then also Text (unquoted 39 lexeme.text) else (if is kind.Blob lexeme then also Blob (blob_of lexeme.text) else also (λ n. Int (pos n)) (integer_of lexeme))) ≡ Some v
+    → (if test then also Text (unquoted 39 lexeme.text) else (if is kind.Blob lexeme then also Blob (blob_of lexeme.text) else also Int (integer_of lexeme))) ≡ Some v
     → IsLiteral lexeme v
 text_literal lexeme v true t e =
     let h = also_some Text (unquoted 39 lexeme.text) v e in
@@ -101,7 +96,7 @@ text_literal lexeme v false t e = blob_literal lexeme v (is kind.Blob lexeme) re
 
 null_literal : (lexeme : Lexeme) (v : Value) (test : Bool) → is (kind.Keyword word.Null) lexeme ≡ test
     → (if test then Some Null else (if is kind.Text lexeme then also Text (unquoted 39 lexeme.text) else (if is kind.Blob lexeme then also Blob (blob_of lexeme.text)
-    else also (λ n. Int (pos n)) (integer_of lexeme)))) ≡ Some v → IsLiteral lexeme v
+    else also Int (integer_of lexeme)))) ≡ Some v → IsLiteral lexeme v
 null_literal lexeme v true t e = subst (λ (x : Value). IsLiteral lexeme x) (some_same Null v e) (kind_is (kind.Keyword word.Null) lexeme refl t)
 null_literal lexeme v false t e = text_literal lexeme v (is kind.Text lexeme) refl e
 
@@ -117,7 +112,7 @@ as_kind k text = literal_of (record { kind = k; text = text })
 pub literal_is : (lexeme : Lexeme) (v : Value) → IsLiteral lexeme v → literal_of lexeme ≡ Some v
 literal_is lexeme Null h = ap (λ (k : TokenKind). as_kind k lexeme.text) h
 literal_is lexeme (Int (pos n)) h =
-    ap (λ (k : TokenKind). as_kind k lexeme.text) h.0 ∙ ap (also (λ (x : ℕ). Int (pos x))) (integer_is (record { kind = kind.Integer n; text = lexeme.text }) n refl h.1)
+    ap (λ (k : TokenKind). as_kind k lexeme.text) h.0 ∙ ap (also Int) (integer_is (record { kind = kind.Integer n; text = lexeme.text }) n refl h.1)
 literal_is lexeme (Int (negsuc n)) h = absurd h
 literal_is lexeme (Text x) h = ap (λ (k : TokenKind). as_kind k lexeme.text) h.0 ∙ ap (λ (t : List ℕ). also Text (unquoted 39 t)) h.1 ∙ ap (also Text) (unquoted_is 39 x)
 literal_is lexeme (Blob x) h = ap (λ (k : TokenKind). as_kind k lexeme.text) h.0 ∙ ap (also Blob) (blob_is lexeme.text x h.1)

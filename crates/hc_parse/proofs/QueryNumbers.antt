@@ -1,7 +1,7 @@
 -- The integers of LIMIT and OFFSET are read exactly.
-use Rattle.std.proofs.Common.{◌≡◌, ◌∙◌, inl, inr, ap, ℕ, ℤ, pos, negsuc, zero, suc, ◌<◌, ◌≤◌, ◌^◌, nat_lt, nat_le, ◌&&◌, ◌||◌, Bool, true, false, List, [], ◌∷◌, ◌++◌, Some, None, refl, sym, subst, arith}
+use Rattle.std.proofs.Common.{◌≡◌, ◌∙◌, inl, inr, ap, ℕ, ℤ, pos, negsuc, zero, suc, ◌≤◌, ◌^◌, nat_le, ◌&&◌, ◌||◌, false, List, [], ◌∷◌, ◌++◌, Some, None, refl, sym, subst, arith}
 use Rattle.std.specs.Prelude.{if◌then◌else◌}
-use Rattle.std.proofs.lemmas.Bool.Decides.{nat_tests}
+use Rattle.std.proofs.lemmas.Bool.{leb-true, le-leb}
 use Rattle.hc_lex.specs.declared.token.TokenKind.{TokenKind}
 use Rattle.hc_lex.specs.declared.token.TokenKind.TheVariants as kind
 use Rattle.hc_parse.specs.Lexemes.{Lexeme}
@@ -11,12 +11,10 @@ use Rattle.hc_parse.specs.Kinds.{is, Starts}
 use Rattle.hc_parse.specs.Queries.{Number}
 use Rattle.hc_parse.specs.Reads.{Rule}
 use Rattle.hc_parse.specs.Rules.{Skipped, Either, OneOf}
-use Rattle.hc_parse.specs.Literals.{number_of}
-use Rattle.hc_parse.specs.ReadingQueries.{positive, negative_of, negative, integer}
-use Rattle.hc_parse.proofs.KindLists.{each_of}
+use Rattle.hc_parse.specs.Literals.{number_of, integer_of}
+use Rattle.hc_parse.specs.ReadingQueries.{negative_of, negative, integer}
 use Rattle.hc_parse.proofs.FaultPrefixes.{kind_of_one, kinds_of_two}
-use Rattle.hc_parse.proofs.Unquoted.{some_same}
-use Rattle.hc_parse.proofs.LiteralFacts.{number_has}
+use Rattle.hc_parse.proofs.LiteralFacts.{has_by, integer_has, integer_is}
 use Rattle.hc_parse.proofs.Exact.{Exact, Begins, Same, exact_same, exact_skip, exact_either}
 use Rattle.hc_parse.proofs.ExactStarts.{begins_skip, follows_begun}
 use Rattle.hc_parse.proofs.ExactOptions.{exact_one}
@@ -24,51 +22,20 @@ use Rattle.hc_parse.proofs.ExactOptions.{exact_one}
 abbrev pub NumberRule : Rule ℤ
 NumberRule l x front = Number x front
 
-lt_of : (a b : ℕ) → nat_lt a b ≡ true → a < b
-lt_of a b t = grind (arith, nat_tests)
-
-of_lt : (a b : ℕ) → a < b → nat_lt a b ≡ true
-of_lt a b h = grind (arith, nat_tests)
-
-le_of : (a b : ℕ) → nat_le a b ≡ true → a ≤ b
-le_of a b t = grind (arith, nat_tests)
-
-of_le : (a b : ℕ) → a ≤ b → nat_le a b ≡ true
-of_le a b h = grind (arith, nat_tests)
-
--- the number of an integer that passes a test
-has_by : (lexeme : Lexeme) (of : ℕ → ℤ) (small test : Bool) (x : ℤ) → (is (kind.Integer 0) lexeme && small) ≡ test → (if test then Some (of (number_of lexeme.kind)) else None) ≡ Some x
-    → (x ≡ of (number_of lexeme.kind)) × (lexeme.kind ≡ kind.Integer (number_of lexeme.kind)) × (small ≡ true)
-has_by lexeme of small true x passes e =
-    let parts = each_of (is (kind.Integer 0) lexeme) small passes in
-    (sym (some_same (of (number_of lexeme.kind)) x e), number_has lexeme parts.0, parts.1)
-has_by lexeme of small false x passes e = absurd (cc)
-
--- what is read without a minus
-positive_has : (lexeme : Lexeme) (x : ℤ) → positive lexeme ≡ Some x → (n : ℕ) × (x ≡ pos n) × (lexeme.kind ≡ kind.Integer n) × (n < 2 ^ 63)
-positive_has lexeme x e =
-    let n : ℕ = number_of lexeme.kind in
-    let h = has_by lexeme (λ i. pos i) (nat_lt n (2 ^ 63)) (is (kind.Integer 0) lexeme && nat_lt n (2 ^ 63)) x refl e in
-    (n, h.0, h.1, lt_of n (2 ^ 63) h.2)
-
-positive_is : (lexeme : Lexeme) (n : ℕ) → lexeme.kind ≡ kind.Integer n → n < 2 ^ 63 → positive lexeme ≡ Some (pos n)
-positive_is lexeme n h small =
-    ap (λ (k : TokenKind). positive (record { kind = k; text = lexeme.text })) h ∙ ap (λ t. if t then Some (pos n) else None) (of_lt n (2 ^ 63) small)
-
 -- what is read behind a minus
 negative_has : (lexeme : Lexeme) (x : ℤ) → negative lexeme ≡ Some x → (n : ℕ) × (x ≡ negative_of n) × (lexeme.kind ≡ kind.Integer n) × (n ≤ 2 ^ 63)
 negative_has lexeme x e =
     let n : ℕ = number_of lexeme.kind in
     let h = has_by lexeme negative_of (nat_le n (2 ^ 63)) (is (kind.Integer 0) lexeme && nat_le n (2 ^ 63)) x refl e in
-    (n, h.0, h.1, le_of n (2 ^ 63) h.2)
+    (n, h.0, h.1, leb-true n (2 ^ 63) h.2)
 
 negative_is : (lexeme : Lexeme) (n : ℕ) → lexeme.kind ≡ kind.Integer n → n ≤ 2 ^ 63 → negative lexeme ≡ Some (negative_of n)
 negative_is lexeme n h small =
-    ap (λ (k : TokenKind). negative (record { kind = k; text = lexeme.text })) h ∙ ap (λ t. if t then Some (negative_of n) else None) (of_le n (2 ^ 63) small)
+    ap (λ (k : TokenKind). negative (record { kind = k; text = lexeme.text })) h ∙ ap (λ t. if t then Some (negative_of n) else None) (le-leb n (2 ^ 63) small)
 
 -- a minus and an integer, or an integer
 abbrev Ways : Rule ℤ
-Ways = Either (Skipped (kind.Minus ∷ []) (OneOf negative)) (OneOf positive)
+Ways = Either (Skipped (kind.Minus ∷ []) (OneOf negative)) (OneOf integer_of)
 
 two_kinds : (n : ℕ) (t u : Lexeme) → t.kind ≡ kind.Minus → u.kind ≡ kind.Integer n → Kinds (kind.Minus ∷ kind.Integer n ∷ []) (t ∷ u ∷ [])
 two_kinds n t u minus integer = ap (λ k. k ∷ u.kind ∷ []) minus ∙ ap (λ k. kind.Minus ∷ k ∷ []) integer
@@ -91,7 +58,7 @@ to_number l x front (inl h) =
     (sym (h.2 ∙ ap (λ (f : List Lexeme). f ++ h.1) minus.1 ∙ ap (λ (f : List Lexeme). minus.0 ∷ f) integer.1))
     (two_kinds n.0 minus.0 integer.0 minus.2 n.2)))
 to_number l x front (inr h) =
-    let n = positive_has h.0 x h.2 in
+    let n = integer_has h.0 x h.2 in
     subst
     (λ (y : ℤ). Number y front)
     (sym n.1)
@@ -106,7 +73,7 @@ from_minus l n front small h =
 from_number : (l : Limits) (x : ℤ) (front : List Lexeme) → Number x front → Ways l x front
 from_number l (pos n) front (inl h) =
     let one = kind_of_one (kind.Integer n) front h.1 in
-    inr (one.0, one.1, positive_is one.0 n one.2 h.0)
+    inr (one.0, one.1, integer_is one.0 n one.2 h.0)
 from_number l (pos n) front (inr h) = subst (λ (i : ℕ). Ways l (pos i) front) (sym h.0) (from_minus l 0 front (omega arith) h.1)
 from_number l (negsuc n) front h = from_minus l (suc n) front (omega (arith, h.0)) h.1
 
@@ -114,11 +81,11 @@ number_same : Same Ways NumberRule
 number_same = record { to = to_number; from = from_number }
 
 -- what is read without a minus begins with an integer
-begins_positive : Begins (kind.Integer 0 ∷ []) (OneOf positive)
-begins_positive =
+begins_integer : Begins (kind.Integer 0 ∷ []) (OneOf integer_of)
+begins_integer =
     record {
       starts = λ l x front h.
-          let n = positive_has h.0 x h.2 in
+          let n = integer_has h.0 x h.2 in
           subst
           (λ (f : List Lexeme). Starts (kind.Integer 0 ∷ []) f)
           (sym h.1)
@@ -130,4 +97,4 @@ pub exact_integer : {ends : List TokenKind} → Exact NumberRule ends integer
 exact_integer {ends} =
     exact_same number_same
     (exact_either kind.Minus (exact_skip (kind.Minus ∷ []) refl (exact_one negative (record { kind = kind.Integer 0; text = [] }) (pos 0) refl))
-    (exact_one {ends = ends} positive (record { kind = kind.Integer 0; text = [] }) (pos 0) refl) begins_skip (follows_begun begins_positive refl))
+    (exact_one {ends = ends} integer_of (record { kind = kind.Integer 0; text = [] }) (pos 0) refl) begins_skip (follows_begun begins_integer refl))

@@ -1,5 +1,5 @@
 -- What one lexeme means: names and literals as functions.
-use Rattle.std.specs.Prelude.{ℕ, pos, ◌+◌, ◌*◌, ◌^◌, ◌==◌, nat_lt, Bool, false, if◌then◌else◌, List, [], ◌∷◌, Option, Some, None}
+use Rattle.std.specs.Prelude.{ℕ, ℤ, pos, ◌+◌, ◌*◌, ◌^◌, ◌==◌, nat_lt, ◌&&◌, Bool, false, if◌then◌else◌, List, [], ◌∷◌, Option, Some, None}
 use Rattle.std.specs.Char.{digit_value}
 use Rattle.hc_lex.specs.declared.token.TokenKind.{TokenKind}
 use Rattle.hc_lex.specs.declared.token.TokenKind.TheVariants as kind
@@ -56,9 +56,9 @@ number_of other = 0
 abbrev pub is_least : Lexeme → Bool
 is_least lexeme = if is (kind.Integer 0) lexeme then number_of lexeme.kind == 2 ^ 63 else false
 
--- the number of an integer that is a literal
-abbrev pub integer_of : Lexeme → Option ℕ
-integer_of lexeme = if is (kind.Integer 0) lexeme then (if nat_lt (number_of lexeme.kind) (2 ^ 63) then Some (number_of lexeme.kind) else None) else None
+-- the integer that a lexeme is, where it is a literal
+abbrev pub integer_of : Lexeme → Option ℤ
+integer_of lexeme = if is (kind.Integer 0) lexeme && nat_lt (number_of lexeme.kind) (2 ^ 63) then Some (pos (number_of lexeme.kind)) else None
 
 -- the literal that a lexeme is
 abbrev pub literal_of : Lexeme → Option Value
@@ -66,7 +66,7 @@ literal_of lexeme =
     if is (kind.Keyword word.Null) lexeme then Some Null
     else (if is kind.Text lexeme then also Text (unquoted 39 lexeme.text)
     else (if is kind.Blob lexeme then also Blob (blob_of lexeme.text)
-    else also (λ n. Int (pos n)) (integer_of lexeme)))
+    else also Int (integer_of lexeme)))
 
 -- the operator that a lexeme is
 abbrev pub sign_of : Signs → Lexeme → Option BinaryOp

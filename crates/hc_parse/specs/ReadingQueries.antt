@@ -15,7 +15,7 @@ use Rattle.hc_parse.specs.Lexemes.{Lexeme}
 use Rattle.hc_parse.specs.Kinds.{is, among, head_is}
 use Rattle.hc_parse.specs.Reads.{Unexpected, NoTable, Reader}
 use Rattle.hc_parse.specs.Readers.{nothing, skip, both, made, either, maybe, flag, one, chain, listed, closed, pushed}
-use Rattle.hc_parse.specs.Literals.{number_of}
+use Rattle.hc_parse.specs.Literals.{number_of, integer_of}
 use Rattle.hc_parse.specs.ReadingExpressions.{name, name_kinds, expression}
 
 -- an alias, with AS or without
@@ -114,19 +114,18 @@ term_of x = record { value = x.0; desc = x.1 }
 abbrev pub term : Reader Term
 term = made term_of (both expression (λ value. direction))
 
--- an integer, and one behind a minus
-abbrev pub positive : Lexeme → Option ℤ
-positive lexeme = if is (kind.Integer 0) lexeme && nat_lt (number_of lexeme.kind) (2 ^ 63) then Some (pos (number_of lexeme.kind)) else None
-
+-- the integer that has this number behind a minus
 abbrev pub negative_of : ℕ → ℤ
 negative_of zero = pos 0
 negative_of (suc n) = negsuc n
 
+-- the integer that a lexeme is behind a minus
 abbrev pub negative : Lexeme → Option ℤ
 negative lexeme = if is (kind.Integer 0) lexeme && nat_le (number_of lexeme.kind) (2 ^ 63) then Some (negative_of (number_of lexeme.kind)) else None
 
+-- an integer, with a minus or without
 abbrev pub integer : Reader ℤ
-integer = either (is kind.Minus) (skip (kind.Minus ∷ []) (one negative)) (one positive)
+integer = either (is kind.Minus) (skip (kind.Minus ∷ []) (one negative)) (one integer_of)
 
 -- GROUP BY with its expressions, and HAVING where it stands
 abbrev pub grouping : Reader (List Expr × Option Expr)

@@ -1,5 +1,5 @@
 // What one token means: names and literals.
-ghost use Rattle.std.specs.Prelude.{◌≡◌, true, pos, IfOk};
+ghost use Rattle.std.specs.Prelude.{◌≡◌, true, IfOk};
 ghost use Rattle.hc_parse.specs.Literals.{also, name_of, unquoted, blob_of, literal_of, number_of, integer_of, is_least};
 ghost use Rattle.hc_parse.specs.Kinds.{is};
 ghost use Rattle.hc_parse.specs.Seen.{lexeme_of};
@@ -41,9 +41,9 @@ pub fn is_least(piece: &Piece<'_>) -> bool
     is_kind(piece, TokenKind::Integer(0)) && number_of(piece.token.kind) == 1 << 63
 }
 
-// The number of an integer that is a literal.
-fn integer_of(piece: &Piece<'_>) -> Option<i64>
-    ensures { also (λ n. Value.Int n) result ≡ also (λ n. Value.Int (pos n)) (integer_of (lexeme_of piece.now)) }
+/// The integer that a token is, where it is a literal.
+pub fn integer_of(piece: &Piece<'_>) -> Option<i64>
+    ensures { result ≡ integer_of (lexeme_of piece.now) }
 {
     let number = number_of(piece.token.kind);
     if is_kind(piece, TokenKind::Integer(0)) && number < 1 << 63 {

@@ -4,10 +4,11 @@ ghost use Rattle.hc_parse.specs.Limits.{limits};
 ghost use Rattle.hc_parse.specs.Coded.{Gives, read_of};
 ghost use Rattle.hc_parse.specs.Seen.{lexeme_of};
 ghost use Rattle.hc_parse.specs.Readers.{one};
-ghost use Rattle.hc_parse.specs.ReadingQueries.{integer, positive, negative};
+ghost use Rattle.hc_parse.specs.Literals.{integer_of};
+ghost use Rattle.hc_parse.specs.ReadingQueries.{integer, negative};
 
 use crate::kinds::{begins, is_kind};
-use crate::lexeme::number_of;
+use crate::lexeme::{integer_of, number_of};
 use crate::piece::Piece;
 use crate::rest::{Rest, behind_first};
 use crate::stop::{Stop, unexpected};
@@ -25,10 +26,10 @@ pub fn read_integer(rest: Rest<'_>) -> Result<(i64, Rest<'_>), Stop<'_>>
 }
 
 fn read_positive(rest: Rest<'_>) -> Result<(i64, Rest<'_>), Stop<'_>>
-    ensures { Gives result (read_of (one positive) limits rest.entry) }
+    ensures { Gives result (read_of (one integer_of) limits rest.entry) }
 {
     match rest.pieces.first() {
-        Some(first) => match positive(first) {
+        Some(first) => match integer_of(first) {
             Some(number) => Ok((number, behind_first(rest))),
             None => unexpected(rest),
         },
@@ -45,17 +46,6 @@ fn read_negative(rest: Rest<'_>) -> Result<(i64, Rest<'_>), Stop<'_>>
             None => unexpected(rest),
         },
         None => unexpected(rest),
-    }
-}
-
-fn positive(piece: &Piece<'_>) -> Option<i64>
-    ensures { result ≡ positive (lexeme_of piece.now) }
-{
-    let number = number_of(piece.token.kind);
-    if is_kind(piece, TokenKind::Integer(0)) && number < 1 << 63 {
-        Some(number as i64)
-    } else {
-        None
     }
 }
 
