@@ -14,12 +14,11 @@ use Rattle.hc_parse.specs.Literals.{sign_of, sign_kinds}
 use Rattle.hc_parse.specs.ReadingExpressions.{binary_tail, binary_chain}
 use Rattle.hc_parse.proofs.Steps.{deeper_same}
 use Rattle.hc_parse.proofs.KindNumbers.{kind_is}
-use Rattle.hc_parse.proofs.KindLists.{each_of, turned}
+use Rattle.hc_parse.proofs.KindLists.{each_of, turned, ends_none, starts_behind}
 use Rattle.hc_parse.proofs.Charged.{negation_kind, charged_stuck_plain}
-use Rattle.hc_parse.proofs.Choice.{starts_behind}
 use Rattle.hc_parse.proofs.SignFacts.{distinct, SignRule, sign_reaches, sign_sounds, sign_sticks, sign_starts, sign_is}
 use Rattle.hc_parse.proofs.ExpressionCosts.{tail_operators}
-use Rattle.hc_parse.proofs.Counted.{Counted, SameRule, Everywhere, counted_same, counted_made, counted_both, ends_none}
+use Rattle.hc_parse.proofs.Counted.{Counted, SameRule, Everywhere, counted_same, counted_made, counted_both}
 use Rattle.hc_parse.proofs.TailChains.{ChainOf, charged_operators, counted_chain}
 
 -- an operator and its operand within limits

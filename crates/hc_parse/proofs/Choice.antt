@@ -1,5 +1,5 @@
 -- Readers that the first lexeme chooses between.
-use Rattle.std.proofs.Common.{◌≡◌, inl, inr, ap, ◌∙◌, ℕ, ◌+◌, Bool, true, false, cond, List, [], ◌∷◌, ◌++◌, Option, Some, None, Ok, Err, refl, sym, subst}
+use Rattle.std.proofs.Common.{◌≡◌, inl, inr, ap, ◌∙◌, ℕ, ◌+◌, Bool, true, false, cond, List, ◌++◌, Option, Some, None, Ok, Err, refl, sym, subst}
 use Rattle.hc_lex.specs.declared.token.TokenKind.{TokenKind}
 use Rattle.hc_parse.specs.Lexemes.{Lexeme}
 use Rattle.hc_parse.specs.Limits.{Limits}
@@ -10,7 +10,7 @@ use Rattle.hc_parse.specs.Readers.{nothing, made, either, maybe}
 use Rattle.hc_parse.specs.Rules.{NothingOf, Made, Either, included}
 use Rattle.hc_parse.proofs.Steps.{stops_as, same_behind, same_test}
 use Rattle.hc_parse.proofs.Lifts.{fails_head}
-use Rattle.hc_parse.proofs.KindLists.{ends_in}
+use Rattle.hc_parse.proofs.KindLists.{ends_in, starts_behind}
 use Rattle.hc_parse.proofs.RuleChanges.{sticks_in, same_reaches, same_sounds}
 use Rattle.hc_parse.proofs.Simple.{nothing_reaches, nothing_sounds, nothing_sticks, made_reaches, made_sounds, made_sticks}
 
@@ -33,70 +33,60 @@ module _ {A : Type 0} (At : Limits → Type 0) (test : Lexeme → Bool) (one oth
   either_reaches This Other cost ends reaches others to_one to_other l left front rest x at (inr has) follows =
       chosen l (cost x + left) (front ++ rest) false (to_other l x front rest at has follows) ∙ others l left front rest x at has follows
 
+  -- what is read by the reader that the choice is, where the test tells so, the choice reads
+  read_as_chosen : (This Whole : Rule A) (cost : A → ℕ) (read : Reader A) (l : Limits) (k left : ℕ) (tokens rest : List Lexeme) (x : A) (b : Bool) → head_is test tokens ≡ b
+      → ((m : Limits) (j : ℕ) (more : List Lexeme) → head_is test more ≡ b → either test one other m j more ≡ read m j more)
+      → ((m : Limits) (front : List Lexeme) → This m x front → Whole m x front) → IsRead This cost read l k tokens x left rest
+      → IsRead Whole cost (either test one other) l k tokens x left rest
+  read_as_chosen This Whole cost read l k left tokens rest x b first chooses within r =
+      record {
+        front = r.front;
+        is = r.is;
+        spent = r.spent;
+        has = λ m wider. within m r.front (r.has m wider);
+        again = λ m j more wider h. chooses m (cost x + j) (r.front ++ more) (same_way tokens r.front rest more b first r.is h) ∙ r.again m j more wider h;
+      }
+
   -- the reader that is chosen reads what its rule has
   read_by : (This Other : Rule A) (cost : A → ℕ) (l : Limits) (k left : ℕ) (tokens rest : List Lexeme) (x : A) → Sounds At This cost one → Sounds At Other cost other → At l → (b : Bool)
       → head_is test tokens ≡ b → cond b (one l k tokens) (other l k tokens) ≡ Ok (x, left, rest) → IsRead (Either This Other) cost (either test one other) l k tokens x left rest
   read_by This Other cost l k left tokens rest x sounds others at true first e =
-      let r = sounds l k left tokens rest x at e in
-      record {
-        front = r.front;
-        is = r.is;
-        spent = r.spent;
-        has = λ m wider. inl (r.has m wider);
-        again = λ m j more wider h. chosen m (cost x + j) (r.front ++ more) true (same_way tokens r.front rest more true first r.is h) ∙ r.again m j more wider h;
-      }
+      read_as_chosen This (Either This Other) cost one l k left tokens rest x true first (λ m j more h. chosen m j more true h) (λ m front has. inl has) (sounds l k left tokens rest x at e)
   read_by This Other cost l k left tokens rest x sounds others at false first e =
-      let r = others l k left tokens rest x at e in
-      record {
-        front = r.front;
-        is = r.is;
-        spent = r.spent;
-        has = λ m wider. inr (r.has m wider);
-        again = λ m j more wider h. chosen m (cost x + j) (r.front ++ more) false (same_way tokens r.front rest more false first r.is h) ∙ r.again m j more wider h;
-      }
+      read_as_chosen Other (Either This Other) cost other l k left tokens rest x false first (λ m j more h. chosen m j more false h) (λ m front has. inr has) (others l k left tokens rest x at e)
 
   -- what is read, either rule has
   pub either_sounds : (This Other : Rule A) (cost : A → ℕ) → Sounds At This cost one → Sounds At Other cost other → Sounds At (Either This Other) cost (either test one other)
   either_sounds This Other cost sounds others l k left tokens rest x at e = read_by This Other cost l k left tokens rest x sounds others at (head_is test tokens) refl e
 
+  -- where the reader stops that the choice is, where the test tells so, the choice stops
+  stuck_as_chosen : (C : Prefix) (read : Reader A) (l : Limits) (k : ℕ) (tokens rest : List Lexeme) (stop : Stop) (b : Bool) → head_is test tokens ≡ b
+      → ((m : Limits) (j : ℕ) (more : List Lexeme) → head_is test more ≡ b → either test one other m j more ≡ read m j more)
+      → IsStuck C read l k tokens stop rest → IsStuck C (either test one other) l k tokens stop rest
+  stuck_as_chosen C read l k tokens rest stop b first chooses s =
+      record {
+        front = s.front;
+        is = s.is;
+        goes = s.goes;
+        again = λ m j more fails.
+            stops_as
+            (either test one other m j (s.front ++ more))
+            (read m j (s.front ++ more))
+            (chooses m j (s.front ++ more) (same_way tokens s.front rest more b first s.is (fails_head stop l m k j rest more fails)))
+            (s.again m j more fails);
+      }
+
   -- the reader that is chosen stops, and the choice is the same before the same lexeme
   stuck_by : (C : Prefix) (l : Limits) (k : ℕ) (tokens rest : List Lexeme) (stop : Stop) → Sticks At C one → Sticks At C other → At l → (b : Bool) → head_is test tokens ≡ b
       → cond b (one l k tokens) (other l k tokens) ≡ Err (stop, rest) → IsStuck C (either test one other) l k tokens stop rest
   stuck_by C l k tokens rest stop sticks others at true first e =
-      let s = sticks l k tokens rest stop at e in
-      record {
-        front = s.front;
-        is = s.is;
-        goes = s.goes;
-        again = λ m j more fails.
-            stops_as
-            (either test one other m j (s.front ++ more))
-            (one m j (s.front ++ more))
-            (chosen m j (s.front ++ more) true (same_way tokens s.front rest more true first s.is (fails_head stop l m k j rest more fails)))
-            (s.again m j more fails);
-      }
+      stuck_as_chosen C one l k tokens rest stop true first (λ m j more h. chosen m j more true h) (sticks l k tokens rest stop at e)
   stuck_by C l k tokens rest stop sticks others at false first e =
-      let s = others l k tokens rest stop at e in
-      record {
-        front = s.front;
-        is = s.is;
-        goes = s.goes;
-        again = λ m j more fails.
-            stops_as
-            (either test one other m j (s.front ++ more))
-            (other m j (s.front ++ more))
-            (chosen m j (s.front ++ more) false (same_way tokens s.front rest more false first s.is (fails_head stop l m k j rest more fails)))
-            (s.again m j more fails);
-      }
+      stuck_as_chosen C other l k tokens rest stop false first (λ m j more h. chosen m j more false h) (others l k tokens rest stop at e)
 
   -- it stops where the reader stops that was chosen
   pub either_sticks : (C : Prefix) → Sticks At C one → Sticks At C other → Sticks At C (either test one other)
   either_sticks C sticks others l k tokens rest stop at e = stuck_by C l k tokens rest stop sticks others at (head_is test tokens) refl e
-
--- what begins a front stands first where anything is behind it
-pub starts_behind : (kinds : List TokenKind) (front rest : List Lexeme) → Starts kinds front → Starts kinds (front ++ rest)
-starts_behind kinds [] rest h = absurd (cc)
-starts_behind kinds (lexeme ∷ front) rest h = h
 
 module _ {A : Type 0} (At : Limits → Type 0) (Is : Rule A) (c : A → ℕ) (d : Option A → ℕ) (read : Reader A) (kinds : List TokenKind) (free : d None ≡ 0) (same : (x : A) → d (Some x) ≡ c x) where
   -- what the rule has

@@ -12,7 +12,8 @@ use Rattle.hc_parse.specs.Reads.{Read}
 use Rattle.hc_parse.specs.declared.stop.Stop.{Stop as Halt}
 use Rattle.hc_parse.specs.declared.stop.Stop.TheVariants.{At, NoMemory}
 use Rattle.hc_parse.specs.Coded.{Stops}
-use Rattle.hc_parse.proofs.Gathers.{Gathers, gathers_start, gathers_on, gathers_stop, among_one, skip_reads, made_of, made_not}
+use Rattle.hc_parse.proofs.KindLists.{among_one}
+use Rattle.hc_parse.proofs.Gathers.{Gathers, gathers_start, gathers_on, gathers_stop, skip_reads, made_of, made_not}
 use Rattle.hc_lex.specs.declared.token.TokenKind.{TokenKind}
 
 pub length_seen : (pieces : List Piece) → length (seen pieces) ≡ length pieces

@@ -9,14 +9,13 @@ use Rattle.hc_parse.specs.Kinds.{is, among, head_is, Ends, Starts}
 use Rattle.hc_parse.specs.Reads.{Rule, Reader, Completes, Reaches, Sounds, Sticks, HasSome}
 use Rattle.hc_parse.specs.Readers.{nothing, skip, both, made, either, closed}
 use Rattle.hc_parse.specs.Rules.{NothingOf, Skipped, Both, Made, Either, Closed, plain, apart, included}
-use Rattle.hc_parse.proofs.KindLists.{ends_in, starts_apart}
+use Rattle.hc_parse.proofs.KindLists.{ends_in, starts_apart, among_one, starts_behind}
 use Rattle.hc_parse.proofs.RuleChanges.{Above, same_reaches, same_sounds, same_sticks, reaches_in}
 use Rattle.hc_parse.proofs.Simple.{nothing_reaches, nothing_sounds, nothing_sticks, made_reaches, made_sounds, made_sticks}
 use Rattle.hc_parse.proofs.SkippedKinds.{kinds_start, skip_reaches, skip_sounds, skip_sticks}
 use Rattle.hc_parse.proofs.Ended.{closed_reaches, closed_sounds, closed_sticks}
 use Rattle.hc_parse.proofs.Sequence.{both_reaches, both_sounds, both_sticks}
-use Rattle.hc_parse.proofs.Choice.{either_reaches, either_sounds, either_sticks, starts_behind}
-use Rattle.hc_parse.proofs.Flags.{among_one}
+use Rattle.hc_parse.proofs.Choice.{either_reaches, either_sounds, either_sticks}
 use Rattle.hc_parse.proofs.Standing.{nothing_some, skip_some, both_some, made_some, this_some, closed_some}
 
 -- within any limits
@@ -153,8 +152,3 @@ starts_in kinds others front fewer h = by_test (head_is (among others) front) re
     by_test : (b : Bool) → head_is (among others) front ≡ b → Starts others front
     by_test true is_so = is_so
     by_test false other = absurd (let bad = sym h ∙ ends_in kinds others front fewer other in cc)
-
--- of no kinds none stands first
-pub ends_none : (rest : List Lexeme) → Ends [] rest
-ends_none [] = refl
-ends_none (lexeme ∷ rest) = refl

@@ -7,6 +7,7 @@ use Rattle.hc_parse.specs.Kinds.{is, among, head_is, Ends, Starts}
 use Rattle.hc_parse.specs.Reads.{Rule, Reader, Completes, Reaches, Sounds, Sticks, HasSome}
 use Rattle.hc_parse.specs.Readers.{nothing, skip, both, made, either, closed}
 use Rattle.hc_parse.specs.Rules.{NothingOf, Skipped, Both, Made, Either, Closed, plain, apart}
+use Rattle.hc_parse.proofs.KindLists.{among_one, starts_behind}
 use Rattle.hc_parse.proofs.Steps.{wider_same}
 use Rattle.hc_parse.proofs.Found.{HasTable}
 use Rattle.hc_parse.proofs.RuleChanges.{Above, same_reaches, same_sounds, same_sticks}
@@ -14,8 +15,7 @@ use Rattle.hc_parse.proofs.Simple.{nothing_reaches, nothing_sounds, nothing_stic
 use Rattle.hc_parse.proofs.SkippedKinds.{skip_reaches, skip_sounds, skip_sticks}
 use Rattle.hc_parse.proofs.Ended.{closed_reaches, closed_sounds, closed_sticks}
 use Rattle.hc_parse.proofs.Sequence.{both_reaches, both_sounds, both_sticks}
-use Rattle.hc_parse.proofs.Choice.{either_reaches, either_sounds, either_sticks, starts_behind}
-use Rattle.hc_parse.proofs.Flags.{among_one}
+use Rattle.hc_parse.proofs.Choice.{either_reaches, either_sounds, either_sticks}
 use Rattle.hc_parse.proofs.Standing.{nothing_some, skip_some, both_some, made_some, this_some, closed_some}
 
 -- it reads what the rule has, what it reads the rule has, each fault is the first, and something of the rule stands
@@ -109,11 +109,11 @@ exact_closed {A} {Is} {ends} {others} {read} kind kinds no_integers not_in h =
 
 -- a test of the first lexeme decides
 pub exact_choice : {A : Type 0} {This Other : Rule A} {ends : List TokenKind} {one other : Reader A} → (test : Lexeme → Bool) → Exact This ends one → Exact Other ends other
-    → ((l : Limits) (x : A) (front rest : List Lexeme) → This l x front → head_is test (front ++ rest) ≡ true)
+    → ((l : Limits) (x : A) (front rest : List Lexeme) → This l x front → Ends ends rest → head_is test (front ++ rest) ≡ true)
     → ((l : Limits) (x : A) (front rest : List Lexeme) → Other l x front → Ends ends rest → head_is test (front ++ rest) ≡ false) → Exact (Either This Other) ends (either test one other)
 exact_choice {A} {This} {Other} {ends} {one} {other} test h g to_one to_other =
     record {
-      reaches = either_reaches HasTable test one other This Other (λ x. 0) ends h.reaches g.reaches (λ l x front rest at has after. to_one l x front rest has)
+      reaches = either_reaches HasTable test one other This Other (λ x. 0) ends h.reaches g.reaches (λ l x front rest at has after. to_one l x front rest has after)
           (λ l x front rest at has after. to_other l x front rest has after);
       sounds = either_sounds HasTable test one other This Other (λ x. 0) h.sounds g.sounds;
       sticks = either_sticks HasTable test one other (Completes (Either This Other) (λ x. 0)) (same_sticks HasTable This (Either This Other) (λ x. 0) one (λ l x front has. inl has) h.sticks)
@@ -129,11 +129,11 @@ exact_either kind h g begins follows =
     (is kind)
     h
     g
-    (λ l x front rest has. sym (among_one kind (front ++ rest)) ∙ starts_behind (kind ∷ []) front rest (begins.starts l x front has))
+    (λ l x front rest has after. sym (among_one kind (front ++ rest)) ∙ starts_behind (kind ∷ []) front rest (begins.starts l x front has))
     (λ l x front rest has after. sym (among_one kind (front ++ rest)) ∙ follows.ended l x front rest has after)
 
 -- whether it is of one of some kinds does
 pub exact_either_of : {A : Type 0} {This Other : Rule A} {ends : List TokenKind} {one other : Reader A} → (kinds : List TokenKind) → Exact This ends one → Exact Other ends other
     → Begins kinds This → Follows kinds ends Other → Exact (Either This Other) ends (either (among kinds) one other)
 exact_either_of kinds h g begins follows =
-    exact_choice (among kinds) h g (λ l x front rest has. starts_behind kinds front rest (begins.starts l x front has)) (λ l x front rest has after. follows.ended l x front rest has after)
+    exact_choice (among kinds) h g (λ l x front rest has after. starts_behind kinds front rest (begins.starts l x front has)) (λ l x front rest has after. follows.ended l x front rest has after)

@@ -12,10 +12,10 @@ use Rattle.hc_parse.specs.ReadingStatements.{optional}
 use Rattle.hc_parse.specs.Rules.{Both, Made, OneOf, plain, apart, included}
 use Rattle.hc_parse.proofs.Found.{HasTable}
 use Rattle.hc_parse.proofs.RuleChanges.{Above}
-use Rattle.hc_parse.proofs.KindLists.{starts_apart}
+use Rattle.hc_parse.proofs.KindLists.{starts_apart, starts_behind}
 use Rattle.hc_parse.proofs.SkippedKinds.{kinds_start}
 use Rattle.hc_parse.proofs.Simple.{one_reaches, one_sounds, one_sticks}
-use Rattle.hc_parse.proofs.Choice.{starts_behind, maybe_reaches, maybe_sounds, maybe_sticks}
+use Rattle.hc_parse.proofs.Choice.{maybe_reaches, maybe_sounds, maybe_sticks}
 use Rattle.hc_parse.proofs.Flags.{flag_reaches, flag_sounds, flag_sticks}
 use Rattle.hc_parse.proofs.Standing.{one_some, maybe_some, flag_some}
 use Rattle.hc_parse.proofs.Exact.{Exact, Begins, Follows, Same, exact_same, exact_both, exact_made}

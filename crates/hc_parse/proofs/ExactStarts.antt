@@ -7,15 +7,9 @@ use Rattle.hc_parse.specs.Phrases.{Maybe}
 use Rattle.hc_parse.specs.Kinds.{is, among, Ends, Starts}
 use Rattle.hc_parse.specs.Reads.{Rule}
 use Rattle.hc_parse.specs.Rules.{NothingOf, Skipped, Both, Made, Either, Closed, apart, included}
-use Rattle.hc_parse.proofs.KindLists.{ends_in, starts_apart}
+use Rattle.hc_parse.proofs.KindLists.{ends_in, starts_apart, ends_none, starts_behind}
 use Rattle.hc_parse.proofs.SkippedKinds.{kinds_start}
-use Rattle.hc_parse.proofs.Choice.{starts_behind}
 use Rattle.hc_parse.proofs.Exact.{Begins, Follows}
-
--- of no kinds none stands first
-pub ends_none : (rest : List Lexeme) → Ends [] rest
-ends_none [] = refl
-ends_none (lexeme ∷ rest) = refl
 
 -- what may follow all may follow this
 pub follows_free : {A : Type 0} {Is : Rule A} {others : List TokenKind} → Follows [] others Is

@@ -12,7 +12,7 @@ use Rattle.hc_parse.specs.Reads.{Stop, Unexpected, Reader, Rule, Completes, Beyo
 use Rattle.hc_parse.specs.Readers.{both, made, either, closed}
 use Rattle.hc_parse.specs.Literals.{sign_kinds}
 use Rattle.hc_parse.specs.ReadingExpressions.{equality_kinds, equality_tail, equality, test_tail, in_tail, like_tail, between_tail, order, place_reader}
-use Rattle.hc_parse.proofs.KindNumbers.{kind_is}
+use Rattle.hc_parse.proofs.KindNumbers.{of_kind, kind_is}
 use Rattle.hc_parse.proofs.Charged.{negation_kind, charged_stuck}
 use Rattle.hc_parse.proofs.Crossing.{raise}
 use Rattle.hc_parse.proofs.ExpressionKinds.{equality_ends}
@@ -102,10 +102,6 @@ no_test m j (t ∷ other) none = by_word (is (kind.Keyword word.In) t) (is (kind
     by_word true y z of_in of_like of_between none = absurd (let bad = none in cc)
     by_word false true z of_in of_like of_between none = absurd (let bad = none in cc)
     by_word false false true of_in of_like of_between none = absurd (let bad = none in cc)
-
--- a lexeme of a kind
-abbrev of_kind : TokenKind → List ℕ → Lexeme
-of_kind k text = record { kind = k; text = text }
 
 -- NOT before no test is refused
 refuses : (m : Limits) (j : ℕ) (n : Lexeme) (other : List Lexeme) → is negation_kind n ≡ true → head_is (among tests) other ≡ false

@@ -15,8 +15,7 @@ use Rattle.hc_parse.specs.Readers.{skip, flag, either}
 use Rattle.hc_parse.specs.Rules.{Skipped, Made, Both, Either}
 use Rattle.hc_parse.specs.Literals.{sign_kinds}
 use Rattle.hc_parse.specs.ReadingExpressions.{equality_kinds, equality_tail, is_tail, test_tail, place_reader}
-use Rattle.hc_parse.proofs.KindLists.{starts_apart}
-use Rattle.hc_parse.proofs.Choice.{starts_behind}
+use Rattle.hc_parse.proofs.KindLists.{starts_apart, starts_behind}
 use Rattle.hc_parse.proofs.Flags.{flag_reaches, flag_sounds, flag_sticks}
 use Rattle.hc_parse.proofs.Standing.{flag_some}
 use Rattle.hc_parse.proofs.ExpressionKinds.{order_ends}

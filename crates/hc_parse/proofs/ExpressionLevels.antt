@@ -15,8 +15,9 @@ use Rattle.hc_parse.specs.Reads.{Stop, Rule, Reader, Prefix, Completes, opening_
 use Rattle.hc_parse.specs.Readers.{lower, either, opened, closed, listed}
 use Rattle.hc_parse.specs.Rules.{Either, Opened, Closed, plain, included}
 use Rattle.hc_parse.specs.ReadingExpressions.{place_reader}
+use Rattle.hc_parse.proofs.KindLists.{starts_behind}
 use Rattle.hc_parse.proofs.Charged.{negation_kind}
-use Rattle.hc_parse.proofs.Choice.{either_reaches, either_sounds, either_sticks, starts_behind}
+use Rattle.hc_parse.proofs.Choice.{either_reaches, either_sounds, either_sticks}
 use Rattle.hc_parse.proofs.RuleChanges.{same_sticks}
 use Rattle.hc_parse.proofs.Standing.{other_some}
 use Rattle.hc_parse.proofs.Lists.{listed_reaches, listed_sounds, listed_sticks, listed_some}

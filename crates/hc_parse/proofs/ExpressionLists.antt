@@ -6,7 +6,7 @@ use Rattle.hc_lex.specs.declared.keyword.Keyword.TheVariants as word
 use Rattle.hc_ast.specs.declared.expression.Expr.{Expr}
 use Rattle.hc_parse.specs.Lexemes.{Lexeme}
 use Rattle.hc_parse.specs.Limits.{Limits, operators_of}
-use Rattle.hc_parse.specs.Expressions.{Tail, In, HasRoom}
+use Rattle.hc_parse.specs.Expressions.{Tail, In}
 use Rattle.hc_parse.specs.Kinds.{is, among, head_is}
 use Rattle.hc_parse.specs.Reads.{Stop, Unexpected, NoLevel, Read, Reader, Rule, Prefix, Completes, OpenIn, Fails, IsStuck, Reaches, Sounds, Sticks, HasSome}
 use Rattle.hc_parse.specs.Readers.{lower, made, opened}
@@ -19,6 +19,7 @@ use Rattle.hc_parse.proofs.Simple.{unexpected_here, made_reaches, made_sounds, m
 use Rattle.hc_parse.proofs.SkippedKinds.{skip_reaches, skip_sounds, skip_sticks}
 use Rattle.hc_parse.proofs.Charged.{stuck_as}
 use Rattle.hc_parse.proofs.Crossing.{raise}
+use Rattle.hc_parse.proofs.Opened.{has_room}
 use Rattle.hc_parse.proofs.Gather.{costs}
 use Rattle.hc_parse.proofs.ExpressionKinds.{order_ends}
 use Rattle.hc_parse.proofs.ExpressionCosts.{tail_operators, one_operators, pushed_operators}
@@ -41,11 +42,6 @@ open_list = opened kind.LeftParen bracketed
 abbrev pub InParts : Bool → Rule Tail
 InParts b = Skipped (kind.Keyword word.In ∷ []) (Made (In b) OpenList)
 
--- where a level is left, there is room
-room_for : (n : ℕ) → 1 ≤ n → HasRoom n
-room_for zero some = absurd (omega (arith, some))
-room_for (suc n) some = tt
-
 -- a list of a name stands in parentheses
 bracketed_some : HasSome Everywhere Bracketed (costs operators_of)
 bracketed_some =
@@ -56,7 +52,7 @@ bracketed_some =
 list_begins : (m : Limits) (k : ℕ) (t : Lexeme) → 1 ≤ m.levels → t.kind ≡ kind.LeftParen → Completes OpenList (costs operators_of) m k (t ∷ [])
 list_begins m k t room paren =
     let s = bracketed_some (lower m) tt in
-    (s.0, s.1, (room_for m.levels room, (t ∷ [], s.0, refl, ap (λ (x : TokenKind). x ∷ []) paren, s.2)), omega (arith, s.3))
+    (s.0, s.1, (has_room m.levels room, (t ∷ [], s.0, refl, ap (λ (x : TokenKind). x ∷ []) paren, s.2)), omega (arith, s.3))
 
 -- an opening parenthesis
 a_paren : Lexeme
@@ -67,7 +63,7 @@ list_some : (m : Limits) → 1 ≤ m.levels → (more : List Lexeme) × (x : Lis
 unfolding a_paren
 list_some m room =
     let s = bracketed_some (lower m) tt in
-    (a_paren ∷ s.0, s.1, (room_for m.levels room, (a_paren ∷ [], s.0, refl, refl, s.2)), s.3)
+    (a_paren ∷ s.0, s.1, (has_room m.levels room, (a_paren ∷ [], s.0, refl, refl, s.2)), s.3)
 
 -- IN before what begins a list begins a test
 in_front : (b : Bool) (m : Limits) (k : ℕ) (t : Lexeme) (f : List Lexeme) → t.kind ≡ kind.Keyword word.In → Completes OpenList (costs operators_of) m k f → Completes (InParts b) tail_operators m k (t ∷ f)

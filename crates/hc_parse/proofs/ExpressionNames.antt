@@ -11,12 +11,12 @@ use Rattle.hc_parse.specs.Reads.{Rule, Reader}
 use Rattle.hc_parse.specs.Readers.{nothing, skip, made, either, opened}
 use Rattle.hc_parse.specs.Rules.{NothingOf, Skipped, Both, Made, Either, Opened}
 use Rattle.hc_parse.specs.ReadingExpressions.{name, name_kinds, behind_name, named, place_reader}
-use Rattle.hc_parse.proofs.Choice.{starts_behind}
+use Rattle.hc_parse.proofs.KindLists.{ends_none, starts_behind}
 use Rattle.hc_parse.proofs.NameFacts.{NameRule, name_reaches, name_sounds, name_sticks, name_some, name_starts}
 use Rattle.hc_parse.proofs.ExpressionKinds.{expression_kinds, name_ends}
 use Rattle.hc_parse.proofs.ExpressionCosts.{name_cost, call_cost, call_all_cost}
 use Rattle.hc_parse.proofs.ExpressionLevels.{Levels, Bracketed, bracketed, counted_bracketed, bracketed_starts, no_negation, counted_level_or}
-use Rattle.hc_parse.proofs.Counted.{Counted, Everywhere, counted_nothing, counted_in, counted_skip, counted_made, counted_both, counted_either, skip_starts, opening_starts, starts_is, starts_not, ends_not, ends_none}
+use Rattle.hc_parse.proofs.Counted.{Counted, Everywhere, counted_nothing, counted_in, counted_skip, counted_made, counted_both, counted_either, skip_starts, opening_starts, starts_is, starts_not, ends_not}
 
 -- what stands in a call's parentheses
 abbrev pub CallInside : List ℕ → Rule Expr

@@ -13,9 +13,9 @@ use Rattle.hc_parse.specs.Reads.{Rule, Reader, Completes}
 use Rattle.hc_parse.specs.Readers.{either, opened, closed}
 use Rattle.hc_parse.specs.Rules.{Made, Either, Opened, Closed}
 use Rattle.hc_parse.specs.ReadingExpressions.{name_kinds, literal_kinds, named, primary, place_reader}
-use Rattle.hc_parse.proofs.KindLists.{starts_apart}
+use Rattle.hc_parse.proofs.KindLists.{starts_apart, starts_behind}
 use Rattle.hc_parse.proofs.RuleChanges.{same_sticks}
-use Rattle.hc_parse.proofs.Choice.{either_reaches, either_sounds, either_sticks, starts_behind}
+use Rattle.hc_parse.proofs.Choice.{either_reaches, either_sounds, either_sticks}
 use Rattle.hc_parse.proofs.Standing.{this_some}
 use Rattle.hc_parse.proofs.LiteralFacts.{LiteralRule, literal_reaches, literal_sounds, literal_sticks, literal_some, literal_starts}
 use Rattle.hc_parse.proofs.ExpressionKinds.{name_ends}

@@ -13,12 +13,8 @@ use Rattle.hc_parse.specs.Literals.{name_of, sign_kinds}
 use Rattle.hc_parse.specs.Expressions.{Signs, applied, or_signs, and_signs, order_signs, sum_signs, product_signs, concat_signs, Place, Whole, Negation, Signed}
 use Rattle.hc_parse.specs.ReadingExpressions.{name_kinds, equality_kinds, behind_name, binary_tail, binary_chain, equality_tail, named, unary, concatenation, product, sum, order, equality, negated, conjunction, disjunction, place_reader, expression}
 use Rattle.hc_parse.specs.ReadingExpressions as reading
-use Rattle.hc_parse.proofs.KindNumbers.{kind_is}
+use Rattle.hc_parse.proofs.KindNumbers.{of_kind, kind_is}
 use Rattle.hc_parse.proofs.ExpressionUnrolled.{unrolled}
-
--- a lexeme of a kind
-abbrev of_kind : TokenKind → List ℕ → Lexeme
-of_kind k text = record { kind = k; text = text }
 
 -- IN is unexpected where an operand has to stand
 in_refused : (p : Place) (m : Limits) (j : ℕ) (text : List ℕ) (other : List Lexeme)

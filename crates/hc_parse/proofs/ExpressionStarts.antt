@@ -16,10 +16,11 @@ use Rattle.hc_parse.specs.Literals.{number_of, is_least}
 use Rattle.hc_parse.specs.ReadingExpressions.{name_kinds, literal_kinds, primary_kinds}
 use Rattle.hc_parse.specs.Expressions.{Tail, Chain, Place, Whole, Negation, Signed, Nested}
 use Rattle.hc_parse.specs.Expressions as grammar
+use Rattle.hc_parse.proofs.KindLists.{starts_behind}
 use Rattle.hc_parse.proofs.ExpressionKinds.{expression_kinds}
+use Rattle.hc_parse.proofs.KindNumbers.{of_kind}
 use Rattle.hc_parse.proofs.NameFacts.{name_starts}
 use Rattle.hc_parse.proofs.LiteralFacts.{literal_starts}
-use Rattle.hc_parse.proofs.Choice.{starts_behind}
 use Rattle.hc_parse.proofs.Counted.{starts_in, starts_not, opening_starts}
 
 -- an operand with or without a sign begins with one of these
@@ -121,10 +122,6 @@ module _ (Room : Type 0) (Within : Place → Expr → List Lexeme → Type 0) wh
   less_apart : (n : ℕ) → n < 2 ^ 63 → (b : Bool) → (n == 2 ^ 63) ≡ b → b ≡ false
   less_apart n less false e = refl
   less_apart n less true e = absurd (omega (arith, less, eqb-true n (2 ^ 63) e))
-
-  -- a lexeme of a kind
-  abbrev of_kind : TokenKind → List ℕ → Lexeme
-  of_kind k text = record { kind = k; text = text }
 
   -- no literal is that number
   literal_apart : (t : Lexeme) (value : Value) → IsLiteral t value → is_least t ≡ false

@@ -12,6 +12,7 @@ use Rattle.hc_parse.specs.Reads.{Rule, Reader, Prefix, Completes, tests}
 use Rattle.hc_parse.specs.Readers.{either}
 use Rattle.hc_parse.specs.Rules.{Skipped, Made, Both, Closed, Either}
 use Rattle.hc_parse.specs.ReadingExpressions.{in_tail, like_tail, between_tail, test_tail, place_reader}
+use Rattle.hc_parse.proofs.KindLists.{ends_none}
 use Rattle.hc_parse.proofs.KindNumbers.{kind_is}
 use Rattle.hc_parse.proofs.RuleChanges.{sticks_in}
 use Rattle.hc_parse.proofs.Choice.{either_reaches, either_sounds, either_sticks}
@@ -21,7 +22,7 @@ use Rattle.hc_parse.proofs.ExpressionLevels.{Levels}
 use Rattle.hc_parse.proofs.ExpressionOrder.{OrderOf, counted_order, order_some}
 use Rattle.hc_parse.proofs.ExpressionLists.{OpenList, InParts, in_begins, in_reaches, in_sounds, in_sticks}
 use Rattle.hc_parse.proofs.Standing.{both_some, closed_some}
-use Rattle.hc_parse.proofs.Counted.{Counted, Everywhere, counted_skip, counted_made, counted_both, counted_closed, counted_either, skip_starts, starts_is, starts_not, starts_in, ends_none}
+use Rattle.hc_parse.proofs.Counted.{Counted, Everywhere, counted_skip, counted_made, counted_both, counted_closed, counted_either, skip_starts, starts_is, starts_not, starts_in}
 
 -- LIKE and its pattern
 abbrev pub LikeParts : Bool → Rule Tail

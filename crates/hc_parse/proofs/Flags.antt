@@ -1,29 +1,19 @@
 -- A reader of lexemes of certain kinds that may stand there.
-use Rattle.std.proofs.Common.{◌≡◌, inl, inr, ap, ◌∙◌, ℕ, ◌||◌, Bool, true, false, List, [], ◌∷◌, ◌++◌, refl, sym, subst}
+use Rattle.std.proofs.Common.{◌≡◌, inl, inr, ap, ◌∙◌, ℕ, Bool, true, false, List, [], ◌∷◌, ◌++◌, refl, sym, subst}
 use Rattle.std.proofs.lemmas.List.{append-nil}
 use Rattle.hc_lex.specs.declared.token.TokenKind.{TokenKind}
 use Rattle.hc_parse.specs.Lexemes.{Lexeme}
 use Rattle.hc_parse.specs.Limits.{Limits}
 use Rattle.hc_parse.specs.Phrases.{Kinds, If}
-use Rattle.hc_parse.specs.Kinds.{is, among, head_is, Starts}
+use Rattle.hc_parse.specs.Kinds.{is, head_is, Starts}
 use Rattle.hc_parse.specs.Reads.{Rule, Completes, Reaches, Sounds, Sticks}
 use Rattle.hc_parse.specs.Readers.{nothing, skip, flag}
 use Rattle.hc_parse.specs.Rules.{NothingOf, Skipped, Either, plain, included}
-use Rattle.hc_parse.proofs.KindLists.{ends_in}
+use Rattle.hc_parse.proofs.KindLists.{ends_in, among_one, starts_behind}
 use Rattle.hc_parse.proofs.RuleChanges.{sticks_in, same_reaches, same_sounds}
 use Rattle.hc_parse.proofs.Simple.{nothing_reaches, nothing_sounds, nothing_sticks}
 use Rattle.hc_parse.proofs.SkippedKinds.{kinds_start, skip_reaches, skip_sounds, skip_sticks}
-use Rattle.hc_parse.proofs.Choice.{either_reaches, either_sounds, either_sticks, starts_behind}
-
--- what holds or does not
-or_not : (b : Bool) → (b || false) ≡ b
-or_not true = refl
-or_not false = refl
-
--- to be among one kind is to be of it
-pub among_one : (kind : TokenKind) (tokens : List Lexeme) → head_is (among (kind ∷ [])) tokens ≡ head_is (is kind) tokens
-among_one kind [] = refl
-among_one kind (lexeme ∷ tokens) = or_not (is kind lexeme)
+use Rattle.hc_parse.proofs.Choice.{either_reaches, either_sounds, either_sticks}
 
 module _ (At : Limits → Type 0) (kind : TokenKind) (kinds : List TokenKind) (cost : Bool → ℕ) (free : (b : Bool) → cost b ≡ 0) where
   -- the lexemes where the flag is set

@@ -1,5 +1,6 @@
 -- A reader with operators of its own: what the rule has is read, what is read the rule has, and a fault is the first.
 use Rattle.std.proofs.Common.{◌≡◌, ⊎_elim, ◌∙◌, ap, ℕ, ◌≤◌, ◌+◌, ◌-◌, List, ◌++◌, Ok, Err, sym, arith}
+use Rattle.std.proofs.Math.Nat.{zero-add}
 use Rattle.hc_lex.specs.declared.token.TokenKind.{TokenKind}
 use Rattle.hc_parse.specs.Lexemes.{Lexeme}
 use Rattle.hc_parse.specs.Limits.{Limits}
@@ -19,13 +20,10 @@ module _ {A : Type 0} (At : Limits → Type 0) (Is : Rule A) (cost : A → ℕ) 
   read_fresh l k tokens rest x few e =
       ap (λ i. and_then (read l i tokens) (give_back k)) (omega (arith, few)) ∙ ap (λ r. and_then r (give_back k)) e
 
-  none_more : (k : ℕ) → 0 + k ≡ k
-  none_more k = omega arith
-
   -- what has operators of its own is read
   pub fresh_reaches : (ends : List TokenKind) → Reaches At Is cost ends read → Reaches At (Fresh Is cost) (λ x. 0) ends (fresh read)
   fresh_reaches ends reaches l left front rest x at has ended =
-      ap (λ k. fresh read l k (front ++ rest)) (none_more left) ∙ read_fresh l left (front ++ rest) rest x has.1 (reaches l (l.operators - cost x) front rest x at has.0 ended)
+      ap (λ k. fresh read l k (front ++ rest)) (zero-add left) ∙ read_fresh l left (front ++ rest) rest x has.1 (reaches l (l.operators - cost x) front rest x at has.0 ended)
 
   -- what is read has operators of its own
   pub fresh_sounds : Sounds At Is cost read → Sounds At (Fresh Is cost) (λ x. 0) (fresh read)
@@ -36,10 +34,10 @@ module _ {A : Type 0} (At : Limits → Type 0) (Is : Rule A) (cost : A → ℕ) 
       record {
         front = r.front;
         is = r.is;
-        spent = p.1 ∙ sym (none_more left);
+        spent = p.1 ∙ sym (zero-add left);
         has = λ m wider. (r.has m wider, omega (arith, r.spent, wider.1));
         again = λ m j other wider h.
-            ap (λ i. fresh read m i (r.front ++ other)) (none_more j)
+            ap (λ i. fresh read m i (r.front ++ other)) (zero-add j)
             ∙ read_fresh m j (r.front ++ other) other x (omega (arith, r.spent, wider.1)) (r.again m (m.operators - cost x) other wider h);
       }
 

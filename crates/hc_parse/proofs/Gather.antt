@@ -1,6 +1,8 @@
 -- Parts that are gathered behind a value, and chains: what the rule has is read, what is read the rule has, and a
 -- fault is the first.
 use Rattle.std.proofs.Common.{◌≡◌, ◌⊎◌, inl, inr, ⊎_elim, ◌∙◌, ap, ℕ, zero, suc, ◌≤◌, ◌+◌, Bool, true, false, if◌then◌else◌, ◌||◌, List, [], ◌∷◌, ◌++◌, length, Ok, Err, refl, sym, subst, arith, append_assoc, append-nil, length-append}
+use Rattle.std.proofs.Math.Nat.{zero-add}
+use Rattle.std.proofs.lemmas.Bool.{or_parts}
 use Rattle.hc_lex.specs.declared.token.TokenKind.{TokenKind}
 use Rattle.hc_parse.specs.Lexemes.{Lexeme}
 use Rattle.hc_parse.specs.Limits.{Limits, Wider}
@@ -11,6 +13,7 @@ use Rattle.hc_parse.specs.Readers.{gather}
 use Rattle.hc_parse.specs.Rules.{Parts}
 use Rattle.hc_parse.proofs.Steps.{ok_parts, stepped, stopped, same_behind, same_test, wider_same}
 use Rattle.hc_parse.proofs.Lifts.{fails_wider, fails_head, fails_behind, goes_behind, goes_in}
+use Rattle.hc_parse.proofs.KindLists.{starts_behind}
 
 -- the operators of parts
 abbrev pub costs : {A : Type 0} → (A → ℕ) → List A → ℕ
@@ -32,18 +35,9 @@ pub head_of : (front : List Lexeme) → (front ≡ [] → ⊥) → HasHead front
 head_of [] filled = absurd (filled refl)
 head_of (t ∷ rest) filled = record { head = t; rest = rest; is = refl }
 
--- the head stays where more follows
-pub starts_before : (kinds : List TokenKind) (front rest : List Lexeme) → Starts kinds front → Starts kinds (front ++ rest)
-starts_before kinds [] rest starts = absurd (let bad = starts in cc)
-starts_before kinds (t ∷ front) rest starts = starts
-
 pub starts_filled : (kinds : List TokenKind) (front : List Lexeme) → Starts kinds front → front ≡ [] → ⊥
 starts_filled kinds [] starts empty = let bad = starts in cc
 starts_filled kinds (t ∷ front) starts empty = let bad = empty in cc
-
-ends_split_by : (a b : Bool) → (a || b) ≡ false → (a ≡ false) × (b ≡ false)
-ends_split_by false b e = (refl, e)
-ends_split_by true b e = absurd (let bad = e in cc)
 
 or_behind : (a b c d : Bool) → d ≡ (b || c) → (a || d) ≡ ((a || b) || c)
 or_behind true b c d e = refl
@@ -56,7 +50,7 @@ among_append (k ∷ first) ends t = or_behind (is k t) (among first t) (among en
 -- what ends by no kind of two lists, ends by no kind of either
 pub ends_split : (first ends : List TokenKind) (rest : List Lexeme) → Ends (first ++ ends) rest → Ends first rest × Ends ends rest
 ends_split first ends [] e = (refl, refl)
-ends_split first ends (t ∷ rest) e = ends_split_by (among first t) (among ends t) (sym (among_append first ends t) ∙ e)
+ends_split first ends (t ∷ rest) e = or_parts (among first t) (among ends t) (sym (among_append first ends t) ∙ e)
 
 module _ {A B : Type 0} (first : List TokenKind) (part : B → Reader A) (join : B → A → B) where
   abbrev go_on : ℕ → Limits → B → A → ℕ → List Lexeme → Read B
@@ -70,9 +64,6 @@ module _ {A B : Type 0} (first : List TokenKind) (part : B → Reader A) (join :
   -- where one begins, its reader is called
   pub through : (n : ℕ) (value : B) (l : Limits) (k : ℕ) (tokens : List Lexeme) → Starts first tokens → gather first part join (suc n) value l k tokens ≡ and_then (part value l k tokens) (go_on n l value)
   through n value l k tokens starts = ap (λ b. if b then and_then (part value l k tokens) (go_on n l value) else Ok (value, k, tokens)) starts
-
-none_more : (k : ℕ) → 0 + k ≡ k
-none_more k = omega arith
 
 -- a part takes a lexeme, so fewer are left
 shorter : (front behind rest : List Lexeme) (n : ℕ) → (front ≡ [] → ⊥) → length ((front ++ behind) ++ rest) ≤ suc n → length (behind ++ rest) ≤ n
@@ -103,7 +94,7 @@ module _ {A B : Type 0} (At : Limits → Type 0) (Part : B → Rule A) (d : A �
       → gather first part join n value l (costs d parts + left) (front ++ rest) ≡ Ok (folded join value parts, left, rest)
   gather_reaches [] n value l left front rest at few has none ended =
       ap (λ (f : List Lexeme). gather first part join n value l (0 + left) (f ++ rest)) has
-      ∙ ap (λ k. gather first part join n value l k rest) (none_more left)
+      ∙ ap (λ k. gather first part join n value l k rest) (zero-add left)
       ∙ ends_here first part join n value l left rest none
   gather_reaches (x ∷ parts) zero value l left front rest at few has none ended =
       let begun = starts value l x has.0 at has.3 in
@@ -115,7 +106,7 @@ module _ {A B : Type 0} (At : Limits → Type 0) (Part : B → Rule A) (d : A �
       let all : ℕ = costs d (x ∷ parts) + left in
       ap (λ (f : List Lexeme). gather first part join (suc n) value l all (f ++ rest)) has.2
       ∙ ap (gather first part join (suc n) value l all) (append_assoc one behind rest)
-      ∙ through first part join n value l all (one ++ (behind ++ rest)) (starts_before first one (behind ++ rest) begun)
+      ∙ through first part join n value l all (one ++ (behind ++ rest)) (starts_behind first one (behind ++ rest) begun)
       ∙ ap (λ k. and_then (part value l k (one ++ (behind ++ rest))) (go_on first part join n l value)) (omega arith)
       ∙ ap (λ r. and_then r (go_on first part join n l value)) (reaches value l (costs d parts + left) one (behind ++ rest) x at has.3 (parts_end parts (join value x) l behind rest at has.4 ended))
       ∙ gather_reaches parts n (join value x) l left behind rest at (shorter one behind rest n (starts_filled first one begun) (subst (λ (f : List Lexeme). length (f ++ rest) ≤ suc n) has.2 few)) has.4 none ended
@@ -152,7 +143,7 @@ module _ {A B : Type 0} (At : Limits → Type 0) (Part : B → Rule A) (d : A �
 
   nothing_again : (value y : B) (rest : List Lexeme) → value ≡ y → Ends first rest → (n : ℕ) (m : Limits) (j : ℕ) (other : List Lexeme) → SameHead rest other → gather first part join n value m (0 + j) other ≡ Ok (y, j, other)
   nothing_again value y rest same ends n m j other h =
-      ap (λ k. gather first part join n value m k other) (none_more j)
+      ap (λ k. gather first part join n value m k other) (zero-add j)
       ∙ ends_here first part join n value m j other (sym (same_test (among first) rest other h) ∙ ends)
       ∙ ap (λ (v : B). Ok (v, j, other)) same
 
@@ -164,7 +155,7 @@ module _ {A B : Type 0} (At : Limits → Type 0) (Part : B → Rule A) (d : A �
         front = [];
         is = p.2;
         joins = sym p.0;
-        spent = p.1 ∙ sym (none_more left);
+        spent = p.1 ∙ sym (zero-add left);
         has = λ m wider. refl;
         again = λ n m j other wider h few. nothing_again value y rest p.0 (subst (λ f. Ends first f) p.2 ends) n m j other h;
       }

@@ -67,11 +67,6 @@ gathers_none {A} {B} {first} {part} {join} {l} {whole} {counter} {end} {value} {
     go zero count same = sym same
     go (suc n) count same = absurd (omega arith)
 
--- one kind alone is among these
-pub among_one : (kind : TokenKind) (tokens : List Lexeme) → head_is (among (kind ∷ [])) tokens ≡ head_is (is kind) tokens
-among_one kind [] = refl
-among_one kind (lexeme ∷ rest) = grind arith
-
 -- what is skipped, and what is read behind
 pub skip_reads : {A : Type 0} (kind : TokenKind) (read : Reader A) (l : Limits) (k : ℕ) (tokens : List Lexeme) (found : Read A)
     → head_is (is kind) tokens ≡ true → read l k (drop 1 tokens) ≡ found → skip (kind ∷ []) read l k tokens ≡ found

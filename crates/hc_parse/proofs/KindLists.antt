@@ -1,15 +1,11 @@
 -- Lists of kinds, and what stands first.
 use Rattle.std.proofs.Common.{◌≡◌, ap, ◌∙◌, ◌==◌, ◌||◌, ◌&&◌, not, Bool, true, false, cond, List, [], ◌∷◌, ◌++◌, refl, sym}
-use Rattle.std.proofs.lemmas.Bool.{eqb-true, eq-eqb}
+use Rattle.std.proofs.Math.Bool.{or-false}
+use Rattle.std.proofs.lemmas.Bool.{eqb-true, eq-eqb, or_parts}
 use Rattle.hc_lex.specs.declared.token.TokenKind.{TokenKind}
 use Rattle.hc_parse.specs.Lexemes.{Lexeme}
-use Rattle.hc_parse.specs.Kinds.{kind_number, is, among, Ends, Starts}
+use Rattle.hc_parse.specs.Kinds.{kind_number, is, among, head_is, Ends, Starts}
 use Rattle.hc_parse.specs.Rules.{has_kind, apart, included}
-
--- where one of two does not hold, neither does
-neither : (a b : Bool) → (a || b) ≡ false → (a ≡ false) × (b ≡ false)
-neither false b h = (refl, h)
-neither true b h = absurd (cc)
 
 -- where both hold, each does
 pub each_of : (a b : Bool) → (a && b) ≡ true → (a ≡ true) × (b ≡ true)
@@ -40,7 +36,7 @@ not_that other kind lexeme false has same h first others = others h
 not_of : (others : List TokenKind) (kind : TokenKind) (lexeme : Lexeme) → has_kind others kind ≡ true → among others lexeme ≡ false → is kind lexeme ≡ false
 not_of [] kind lexeme h none = absurd (cc)
 not_of (other ∷ others) kind lexeme h none =
-    let n = neither (is other lexeme) (among others lexeme) none in
+    let n = or_parts (is other lexeme) (among others lexeme) none in
     not_that other kind lexeme (kind_number other == kind_number kind) (has_kind others kind) refl h n.0 (λ g. not_of others kind lexeme g n.1)
 
 -- what is no other kind is none of fewer kinds
@@ -49,6 +45,21 @@ none_of [] others lexeme h none = refl
 none_of (kind ∷ ends) others lexeme h none =
     let parts = each_of (has_kind others kind) (included ends others) h in
     ap (λ b. b || among ends lexeme) (not_of others kind lexeme parts.0 none) ∙ none_of ends others lexeme parts.1 none
+
+-- to be among one kind is to be of it
+pub among_one : (kind : TokenKind) (tokens : List Lexeme) → head_is (among (kind ∷ [])) tokens ≡ head_is (is kind) tokens
+among_one kind [] = refl
+among_one kind (lexeme ∷ tokens) = or-false (is kind lexeme)
+
+-- of no kinds none stands first
+pub ends_none : (rest : List Lexeme) → Ends [] rest
+ends_none [] = refl
+ends_none (lexeme ∷ rest) = refl
+
+-- what begins a front stands first where anything is behind it
+pub starts_behind : (kinds : List TokenKind) (front rest : List Lexeme) → Starts kinds front → Starts kinds (front ++ rest)
+starts_behind kinds [] rest h = absurd (cc)
+starts_behind kinds (lexeme ∷ front) rest h = h
 
 -- where none of the kinds stands first, none of fewer kinds does
 pub ends_in : (ends others : List TokenKind) (rest : List Lexeme) → included ends others ≡ true → Ends others rest → Ends ends rest

@@ -125,6 +125,10 @@ is_kind : (kind : TokenKind) (lexeme : Lexeme) → (kind_number kind == 2) ≡ f
 is_kind kind lexeme no_integer h (inl integer) = absurd (let bad : (kind_number kind == 2) ≡ true = ap (λ n. n == 2) integer in let worse : true ≡ false = sym bad ∙ no_integer in cc)
 is_kind kind lexeme no_integer h (inr same) = same
 
+-- a lexeme of a kind
+abbrev pub of_kind : TokenKind → List ℕ → Lexeme
+of_kind k text = record { kind = k; text = text }
+
 -- a lexeme that passes the test of a kind is of this kind
 pub kind_is : (kind : TokenKind) (lexeme : Lexeme) → (kind_number kind == 2) ≡ false → is kind lexeme ≡ true → lexeme.kind ≡ kind
 kind_is kind lexeme no_integer h =

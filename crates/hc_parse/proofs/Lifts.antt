@@ -1,5 +1,6 @@
 -- What goes on in a part goes on in the whole.
 use Rattle.std.proofs.Common.{◌≡◌, ◌⊎◌, inl, inr, ap, ◌∙◌, ℕ, ◌+◌, ◌-◌, List, [], ◌∷◌, ◌++◌, refl, sym, subst, arith, append_assoc}
+use Rattle.std.proofs.Math.Nat.{zero-add}
 use Rattle.hc_parse.specs.Lexemes.{Lexeme}
 use Rattle.hc_parse.specs.Limits.{Limits, Wider}
 use Rattle.hc_parse.specs.Reads.{Stop, Unexpected, NoLevel, NoOperator, NoOperatorForNot, NoTable, Fails, SameHead, Prefix, Beyond, OpenNot, OpenIn, OpenJoint, Goes}
@@ -83,18 +84,14 @@ module _ (C D : Prefix) (l : Limits) (c : ℕ) (pre : List Lexeme) (lift : (m : 
       (h.0, h.1, h.2, h.3, h.4, h.5, h.6, h.7, here k front h.8, beyond k front (h.2 ∷ []) h.9, beyond k front (h.0 ∷ h.2 ∷ []) h.10, beyond k front (h.0 ∷ h.1 ∷ []) h.11)
   goes_behind k NoTable front rest h = (open_joint_behind k front h.0, h.1, h.2, h.3, h.4)
 
--- no operators more are as many
-none_more : (k : ℕ) → k ≡ 0 + k
-none_more k = omega arith
-
 -- no fault shows in the whole, behind lexemes that cost nothing, where none shows in its part
 pub goes_after : (C D : Prefix) (l : Limits) (pre : List Lexeme) (lift : (m : Limits) (j : ℕ) (f : List Lexeme) → Wider l m → C m j f → D m j (pre ++ f))
     (k : ℕ) (stop : Stop) (front rest : List Lexeme) → Goes C stop l k front rest → Goes D stop l k (pre ++ front) rest
 goes_after C D l pre lift k stop front rest h =
     subst
     (λ i. Goes D stop l i (pre ++ front) rest)
-    (sym (none_more k))
-    (goes_behind C D l 0 pre (λ m j f wider has. subst (λ i. D m i (pre ++ f)) (none_more j) (lift m j f wider has)) k stop front rest h)
+    (zero-add k)
+    (goes_behind C D l 0 pre (λ m j f wider has. subst (λ i. D m i (pre ++ f)) (sym (zero-add j)) (lift m j f wider has)) k stop front rest h)
 
 -- no fault shows in one rule where none shows in one that it has
 pub goes_in : (C D : Prefix) (l : Limits) (lift : (m : Limits) (j : ℕ) (f : List Lexeme) → Wider l m → C m j f → D m j f)

@@ -14,7 +14,8 @@ use Rattle.hc_parse.proofs.Lifts.{goes_in}
 use Rattle.hc_parse.proofs.RuleChanges.{same_reaches, same_sounds, same_sticks}
 use Rattle.hc_parse.proofs.Simple.{made_reaches, made_sounds, made_sticks}
 use Rattle.hc_parse.proofs.SkippedKinds.{kinds_start, skip_reaches, skip_sounds, skip_sticks}
-use Rattle.hc_parse.proofs.Gather.{starts_before, starts_filled}
+use Rattle.hc_parse.proofs.KindLists.{starts_behind}
+use Rattle.hc_parse.proofs.Gather.{starts_filled}
 use Rattle.hc_parse.proofs.Chains.{chain_reaches, chain_sounds, chain_sticks}
 
 -- values that are pushed behind others stand behind them
@@ -66,7 +67,7 @@ module _ {A : Type 0} (At : Limits → Type 0) (P : Rule A) (c : A → ℕ) (e :
 
   -- a part begins with a comma
   begins : (value : List A) (l : Limits) (x : A) (front : List Lexeme) → Part value l x front → Starts (kind.Comma ∷ []) front
-  begins value l x front h = subst (λ (f : List Lexeme). Starts (kind.Comma ∷ []) f) (sym h.2) (starts_before (kind.Comma ∷ []) h.0 h.1 (kinds_start kind.Comma [] h.0 h.3))
+  begins value l x front h = subst (λ (f : List Lexeme). Starts (kind.Comma ∷ []) f) (sym h.2) (starts_behind (kind.Comma ∷ []) h.0 h.1 (kinds_start kind.Comma [] h.0 h.3))
 
   -- a list is read where no comma follows
   pub listed_reaches : (ends : List TokenKind) → apart (kind.Comma ∷ []) ends ≡ true → Reaches At P c ends read → Reaches At (λ l xs. Listed (P l) xs) e (kind.Comma ∷ ends) (listed read)

@@ -40,7 +40,8 @@ some_level : (n : ℕ) → 1 ≤ n → (m : ℕ) × (n ≡ suc m)
 some_level zero some = absurd (omega (arith, some))
 some_level (suc n) some = (n, refl)
 
-has_room : (n : ℕ) → 1 ≤ n → HasRoom n
+-- where a level is left, there is room
+pub has_room : (n : ℕ) → 1 ≤ n → HasRoom n
 has_room zero some = absurd (omega (arith, some))
 has_room (suc n) some = tt
 

@@ -12,14 +12,12 @@ use Rattle.hc_parse.specs.Queries.{PlainName, Direction}
 use Rattle.hc_parse.specs.Reads.{Rule}
 use Rattle.hc_parse.specs.Rules.{NothingOf, Either, OneOf, apart, included}
 use Rattle.hc_parse.specs.ReadingQueries.{is_plain, plain_word, direction}
-use Rattle.hc_parse.proofs.KindLists.{each_of, ends_in}
+use Rattle.hc_parse.proofs.KindLists.{each_of, ends_in, among_one}
 use Rattle.hc_parse.proofs.KindNumbers.{kind_is, is_of_kind}
-use Rattle.hc_parse.proofs.Flags.{among_one}
 use Rattle.hc_parse.proofs.Unquoted.{some_same}
-use Rattle.hc_parse.proofs.Exact.{Exact, Begins, Follows, Same, exact_same, exact_nothing}
+use Rattle.hc_parse.proofs.Exact.{Exact, Begins, Follows, Same, exact_same, exact_nothing, exact_choice}
 use Rattle.hc_parse.proofs.ExactStarts.{follows_begun, follows_nothing, follows_either}
 use Rattle.hc_parse.proofs.ExactOptions.{exact_one}
-use Rattle.hc_parse.proofs.ExactParts.{exact_chosen}
 
 abbrev pub DirectionRule : Rule Bool
 DirectionRule l b front = Direction b front
@@ -117,10 +115,10 @@ pub exact_direction : {ends : List TokenKind} → included (kind.Name ∷ []) en
 exact_direction {ends} fewer =
     exact_same
     direction_same
-    (exact_chosen
+    (exact_choice
     (is_plain (codes "DESC"))
     (exact_one (plain_word (codes "DESC") true) (word_lexeme (codes "DESC")) true refl)
-    (exact_chosen
+    (exact_choice
     (is_plain (codes "ASC"))
     (exact_one (plain_word (codes "ASC") false) (word_lexeme (codes "ASC")) false refl)
     (exact_nothing {ends = ends} false)

@@ -17,6 +17,7 @@ use Rattle.hc_parse.specs.Readers.{skip, made, either, pushed}
 use Rattle.hc_parse.specs.Rules.{NothingOf, Skipped, Both, Made, Either, Parts, Chained}
 use Rattle.hc_parse.specs.ReadingExpressions.{expression}
 use Rattle.hc_parse.specs.ReadingQueries.{source, table_of, first_table, joint_kinds, next_table, tables, from}
+use Rattle.hc_parse.proofs.KindLists.{among_one, starts_behind}
 use Rattle.hc_parse.proofs.Steps.{wider_same}
 use Rattle.hc_parse.proofs.Lifts.{goes_in}
 use Rattle.hc_parse.proofs.RuleChanges.{same_reaches, same_sounds}
@@ -24,8 +25,7 @@ use Rattle.hc_parse.proofs.Found.{HasTable}
 use Rattle.hc_parse.proofs.Gather.{starts_filled}
 use Rattle.hc_parse.proofs.Chains.{chain_reaches, chain_sounds, chain_sticks}
 use Rattle.hc_parse.proofs.Simple.{unexpected_here}
-use Rattle.hc_parse.proofs.Flags.{among_one}
-use Rattle.hc_parse.proofs.Choice.{either_reaches, either_sounds, either_sticks, starts_behind}
+use Rattle.hc_parse.proofs.Choice.{either_reaches, either_sounds, either_sticks}
 use Rattle.hc_parse.proofs.Lists.{folded_pushed}
 use Rattle.hc_parse.proofs.ExpressionKinds.{expression_ends}
 use Rattle.hc_parse.proofs.Exact.{Exact, Begins, Follows, exact_same, exact_nothing, exact_skip, exact_made, exact_both, exact_either}

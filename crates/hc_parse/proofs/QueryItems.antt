@@ -1,5 +1,6 @@
 -- What a query asks for is read exactly: `*`, `name.*`, or an expression with its alias.
 use Rattle.std.proofs.Common.{◌≡◌, ◌∙◌, inl, inr, ap, ℕ, ◌+◌, Bool, true, false, List, [], ◌∷◌, ◌++◌, Option, Some, None, Ok, Err, refl, sym, subst}
+use Rattle.std.proofs.Math.Nat.{zero-add}
 use Rattle.hc_lex.specs.declared.token.TokenKind.TheVariants as kind
 use Rattle.hc_lex.specs.declared.keyword.Keyword.TheVariants as word
 use Rattle.hc_ast.specs.declared.expression.Expr.TheVariants as expr
@@ -14,6 +15,7 @@ use Rattle.hc_parse.specs.Literals.{name_of}
 use Rattle.hc_parse.specs.Reads.{Stop, Completes, SameHead, Fails, Reaches, Sounds, Sticks, IsRead, IsStuck}
 use Rattle.hc_parse.specs.ReadingExpressions.{name_kinds, expression}
 use Rattle.hc_parse.specs.ReadingQueries.{begins_all_of, all_of, one_item, item}
+use Rattle.hc_parse.proofs.KindLists.{ends_none}
 use Rattle.hc_parse.proofs.Steps.{stops_as, same_behind}
 use Rattle.hc_parse.proofs.Lifts.{fails_head, goes_in}
 use Rattle.hc_parse.proofs.RuleChanges.{Above}
@@ -23,13 +25,13 @@ use Rattle.hc_parse.proofs.KindNumbers.{kind_is}
 use Rattle.hc_parse.proofs.NameFacts.{name_has}
 use Rattle.hc_parse.proofs.ExpressionKinds.{expression_kinds, expression_ends}
 use Rattle.hc_parse.proofs.Exact.{Exact, Begins, Follows, exact_same, exact_nothing, exact_skip, exact_made, exact_both, exact_either}
-use Rattle.hc_parse.proofs.ExactStarts.{ends_none, begins_skip, begins_both, begins_made, begins_closed, follows_begun, follows_either}
+use Rattle.hc_parse.proofs.ExactStarts.{begins_skip, begins_both, begins_made, begins_closed, follows_begun, follows_either}
 use Rattle.hc_parse.proofs.ExactNames.{begins_name}
 use Rattle.hc_parse.proofs.Failing.{IsFault}
 use Rattle.hc_parse.proofs.QuerySources.{MaybeAlias, exact_maybe_alias, follows_alias}
 use Rattle.hc_parse.proofs.QueryKinds.{item_ends}
 use Rattle.hc_parse.proofs.QueryColumns.{column_stands}
-use Rattle.hc_parse.proofs.QueryStars.{ItemRule, AllOfRule, OneRule, OtherRule, other_item, Ways, from_item, item_same, item_by, exact_all_of, begins_so, IsAllOf, three_of, one_fails, all_of_fails, fails_same, a_name, not_both, none_more, same_first, IsTurned, turned}
+use Rattle.hc_parse.proofs.QueryStars.{ItemRule, AllOfRule, OneRule, OtherRule, other_item, Ways, from_item, item_same, item_by, exact_all_of, begins_so, IsAllOf, three_of, one_fails, all_of_fails, fails_same, a_name, not_both, same_first, IsTurned, turned}
 
 module _ (expression_exact : Exact Expression expression_ends expression) (expression_begins : Begins expression_kinds Expression)
     (name_star : (l : Limits) (k : ℕ) (a b c : Lexeme) (rest : List Lexeme) → among name_kinds a ≡ true → is kind.Dot b ≡ true → is kind.Star c ≡ true
@@ -105,7 +107,7 @@ module _ (expression_exact : Exact Expression expression_ends expression) (expre
       (choice.One (expr.Name (Some table) []) None, k, [])
       (subst
       (λ (i : ℕ). other_item l i (a ∷ b ∷ a_name ∷ []) ≡ Ok (choice.One (expr.Name (Some table) []) None, k, []))
-      (none_more k)
+      (zero-add k)
       (exact_other.reaches
       l
       k
@@ -142,7 +144,7 @@ module _ (expression_exact : Exact Expression expression_ends expression) (expre
       let kinds : Kinds (kind.Dot ∷ kind.Star ∷ []) (b ∷ c ∷ []) = ap (λ x. x ∷ c.kind ∷ []) (kind_is kind.Dot b refl dot) ∙ ap (λ x. kind.Dot ∷ x ∷ []) (kind_is kind.Star c refl star) in
       subst
       (λ (i : ℕ). all_of l i (a ∷ b ∷ c ∷ rest) ≡ Ok (choice.AllOf table, k, rest))
-      (none_more k)
+      (zero-add k)
       ((exact_all_of {ends = []}).reaches l k (a ∷ b ∷ c ∷ []) rest (choice.AllOf table) at (table, refl, (a ∷ [], b ∷ c ∷ [], refl, (a, refl, name_has a table named), kinds)) (ends_none rest))
 
   -- where `name.*` is not read, its name is none

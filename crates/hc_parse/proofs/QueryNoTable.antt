@@ -1,7 +1,7 @@
 -- Where there is room for no further table, its name is the first fault.
 use Rattle.std.proofs.Common.{◌≡◌, ◌⊎◌, ◌∙◌, inl, inr, ⊎_elim, ap, ℕ, suc, ◌≤◌, nat_lt, ◌||◌, Bool, true, false, List, [], ◌∷◌, ◌++◌, length, drop, Some, None, Ok, Err, refl, sym, subst, arith, append_assoc}
 use Rattle.std.specs.Prelude.{if◌then◌else◌}
-use Rattle.std.proofs.lemmas.Bool.Decides.{nat_tests}
+use Rattle.std.proofs.lemmas.Bool.{ltb-true, ltb-false}
 use Rattle.hc_lex.specs.declared.token.TokenKind.{TokenKind}
 use Rattle.hc_lex.specs.declared.token.TokenKind.TheVariants as kind
 use Rattle.hc_lex.specs.declared.keyword.Keyword.TheVariants as word
@@ -66,12 +66,6 @@ within_fails_by count joined l k tokens false room none =
 abbrev join_lexeme : Lexeme
 join_lexeme = record { kind = kind.Keyword word.Join; text = [] }
 
-le_of : (a b : ℕ) → nat_lt a b ≡ false → b ≤ a
-le_of a b t = grind (arith, nat_tests)
-
-lt_of : (a b : ℕ) → nat_lt a b ≡ true → suc a ≤ b
-lt_of a b t = grind (arith, nat_tests)
-
 module _ (expression_exact : Exact Expression expression_ends expression) (before : List FromTable) where
   -- nothing, or what begins a further table
   abbrev Begun : Prefix
@@ -86,7 +80,7 @@ module _ (expression_exact : Exact Expression expression_ends expression) (befor
   open_joint l k front more b none words is_joint =
       let m : Limits = record { levels = l.levels; operators = l.operators; tables = suc (length before) } in
       let s = (exact_joined expression_exact b).some m (m, omega arith, wider_same m) in
-      let few : l.tables ≤ length before = le_of (length before) l.tables none in (
+      let few : l.tables ≤ length before = ltb-false (length before) l.tables none in (
         [],
         front,
         m,
@@ -251,7 +245,7 @@ module _ (expression_exact : Exact Expression expression_ends expression) (befor
   by_room : (l : Limits) (k : ℕ) (t : Lexeme) (tokens rest : List Lexeme) (stop : Stop) (room : Bool) → nat_lt (length before) l.tables ≡ room → among joint_kinds t ≡ true
       → next_table before l k (t ∷ tokens) ≡ Err (stop, rest) → Stuck l k (t ∷ tokens) stop rest
   by_room l k t tokens rest stop true room begun e =
-      let s = next_sticks expression_exact before l k (t ∷ tokens) rest stop (lt_of (length before) l.tables room) e in
+      let s = next_sticks expression_exact before l k (t ∷ tokens) rest stop (ltb-true (length before) l.tables room) e in
       record {
         front = s.front;
         is = s.is;

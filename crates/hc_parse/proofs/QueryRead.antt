@@ -13,10 +13,11 @@ use Rattle.hc_parse.specs.Reads.{Stop, Completes, Reaches, Sounds, Sticks}
 use Rattle.hc_parse.specs.Readers.{listed}
 use Rattle.hc_parse.specs.ReadingExpressions.{name_kinds, expression}
 use Rattle.hc_parse.specs.ReadingQueries.{item, wants_from, body, select_of, query}
+use Rattle.hc_parse.proofs.KindLists.{ends_none}
 use Rattle.hc_parse.proofs.Found.{HasTable}
 use Rattle.hc_parse.proofs.ExpressionKinds.{expression_kinds, expression_ends}
 use Rattle.hc_parse.proofs.Exact.{Exact, Begins, Follows, exact_same, exact_made, exact_both}
-use Rattle.hc_parse.proofs.ExactStarts.{ends_none, follows_free}
+use Rattle.hc_parse.proofs.ExactStarts.{follows_free}
 use Rattle.hc_parse.proofs.ExactOptions.{exact_flag}
 use Rattle.hc_parse.proofs.ExactLists.{exact_listed}
 use Rattle.hc_parse.proofs.ExactParts.{follows_both, made_same}

@@ -13,7 +13,7 @@ use Rattle.hc_parse.specs.ReadingExpressions.{name_kinds}
 use Rattle.hc_parse.specs.ReadingQueries.{alias, maybe_alias, source}
 use Rattle.hc_parse.proofs.NameFacts.{NameRule}
 use Rattle.hc_parse.proofs.Exact.{Exact, Begins, Follows, Same, exact_same, exact_skip, exact_both, exact_either}
-use Rattle.hc_parse.proofs.ExactStarts.{begins_skip, begins_either, begins_both, follows_begun, follows_maybe}
+use Rattle.hc_parse.proofs.ExactStarts.{begins_skip, begins_either, follows_begun, follows_maybe}
 use Rattle.hc_parse.proofs.ExactOptions.{exact_maybe}
 use Rattle.hc_parse.proofs.ExactNames.{exact_name, begins_name}
 
@@ -65,6 +65,3 @@ follows_alias may fewer = follows_maybe begins_alias may fewer
 -- a table's name with its alias
 pub exact_source : {ends : List TokenKind} → included alias_kinds ends ≡ true → Exact SourceRule ends source
 exact_source {ends} fewer = exact_both (exact_name {ends = []}) (λ table. exact_maybe_alias fewer) (λ table. follows_alias refl refl)
-
-pub begins_source : Begins name_kinds SourceRule
-begins_source = begins_both (λ table. MaybeAlias) begins_name

@@ -19,8 +19,7 @@ use Rattle.hc_parse.specs.Rules.{NothingOf, Skipped, Both, Made, Either, Closed}
 use Rattle.hc_parse.specs.ReadingExpressions.{name, name_kinds, expression}
 use Rattle.hc_parse.specs.ReadingQueries.{maybe_alias, begins_all_of, all_of, one_item, item}
 use Rattle.hc_parse.proofs.Steps.{stops_as, wider_same, deeper_same}
-use Rattle.hc_parse.proofs.Flags.{among_one}
-use Rattle.hc_parse.proofs.KindLists.{each_of, apart_from}
+use Rattle.hc_parse.proofs.KindLists.{each_of, apart_from, among_one}
 use Rattle.hc_parse.proofs.KindNumbers.{kind_is, is_of_kind}
 use Rattle.hc_parse.proofs.FaultPrefixes.{kinds_of_two}
 use Rattle.hc_parse.proofs.NameFacts.{NameRule, name_starts}
@@ -149,10 +148,6 @@ a_name = record { kind = kind.Name; text = [] }
 -- nothing is both read and not
 pub not_both : {A : Type 0} (read : Read A) (y : A × ℕ × List Lexeme) → read ≡ Ok y → IsFault read → ⊥
 not_both read y e h = let bad = sym e ∙ h.1 in cc
-
--- a number of operators, and none more
-pub none_more : (k : ℕ) → 0 + k ≡ k
-none_more k = omega arith
 
 -- the first lexeme stays
 pub same_first : (a : Lexeme) (tokens other : List Lexeme) → SameHead (a ∷ tokens) other → (more : List Lexeme) × (other ≡ a ∷ more)

@@ -1,7 +1,7 @@
 -- A table behind another one is read exactly, where there is room for it.
 use Rattle.std.proofs.Common.{◌≡◌, ◌∙◌, ap, ℕ, ◌+◌, ◌<◌, nat_lt, Bool, true, false, List, [], ◌++◌, length, Option, None, Ok, Err, refl, sym, arith}
 use Rattle.std.specs.Prelude.{if◌then◌else◌}
-use Rattle.std.proofs.lemmas.Bool.Decides.{nat_tests}
+use Rattle.std.proofs.lemmas.Bool.{ltb-true, lt-ltb}
 use Rattle.hc_lex.specs.declared.token.TokenKind.TheVariants as kind
 use Rattle.hc_lex.specs.declared.keyword.Keyword.TheVariants as word
 use Rattle.hc_ast.specs.declared.expression.Expr.{Expr}
@@ -15,6 +15,7 @@ use Rattle.hc_parse.specs.Readers.{nothing, both}
 use Rattle.hc_parse.specs.Rules.{NothingOf, Both, Made}
 use Rattle.hc_parse.specs.ReadingExpressions.{name_kinds, expression}
 use Rattle.hc_parse.specs.ReadingQueries.{clause, table_of, joint, joint_kinds, joined_source, no_table, table_within, next_table}
+use Rattle.hc_parse.proofs.KindLists.{ends_none}
 use Rattle.hc_parse.proofs.Steps.{stops_as}
 use Rattle.hc_parse.proofs.Lifts.{fails_wider, goes_in}
 use Rattle.hc_parse.proofs.RuleChanges.{Above, narrower_sounds, narrower_sticks}
@@ -23,7 +24,7 @@ use Rattle.hc_parse.proofs.Simple.{made_reaches, made_sounds, made_sticks}
 use Rattle.hc_parse.proofs.Sequence.{both_reaches, both_sounds, both_sticks}
 use Rattle.hc_parse.proofs.ExpressionKinds.{expression_ends}
 use Rattle.hc_parse.proofs.Exact.{Exact, Begins, Follows, exact_nothing, exact_made, exact_both}
-use Rattle.hc_parse.proofs.ExactStarts.{ends_none, begins_both, begins_made, follows_nothing}
+use Rattle.hc_parse.proofs.ExactStarts.{begins_both, begins_made, follows_nothing}
 use Rattle.hc_parse.proofs.QueryClauses.{MaybeClause, clause_exact, clause_follows}
 use Rattle.hc_parse.proofs.QuerySources.{SourceRule, alias_kinds, exact_source}
 use Rattle.hc_parse.proofs.QueryKinds.{table_ends}
@@ -50,15 +51,9 @@ NextRule before = Made (λ x. x.1) (Both JointRule (WithinRule (length before)))
 abbrev pub Room : ℕ → Limits → Type 0
 Room count l = count < l.tables
 
-lt_of : (a b : ℕ) → nat_lt a b ≡ true → a < b
-lt_of a b t = grind (arith, nat_tests)
-
-of_lt : (a b : ℕ) → a < b → nat_lt a b ≡ true
-of_lt a b h = grind (arith, nat_tests)
-
 -- where there is room, the table is read
 with_room : (count : ℕ) (joined : Bool) (l : Limits) (k : ℕ) (tokens : List Lexeme) → count < l.tables → table_within count joined l k tokens ≡ joined_source joined l k tokens
-with_room count joined l k tokens room = ap (λ b. if b then joined_source joined l k tokens else no_table l k tokens) (of_lt count l.tables room)
+with_room count joined l k tokens room = ap (λ b. if b then joined_source joined l k tokens else no_table l k tokens) (lt-ltb count l.tables room)
 
 -- where there is none, none is
 pub without_room : (count : ℕ) (joined : Bool) (l : Limits) (k : ℕ) (tokens : List Lexeme) → nat_lt count l.tables ≡ false → table_within count joined l k tokens ≡ no_table l k tokens
@@ -101,7 +96,7 @@ module _ (expression_exact : Exact Expression expression_ends expression) where
     within_read : (b : Bool) (l : Limits) (k left : ℕ) (tokens rest : List Lexeme) (x : FromTable) → HasTable l → nat_lt count l.tables ≡ b → table_within count joined l k tokens ≡ Ok (x, left, rest)
         → IsRead (WithinRule count joined) (λ x. 0) (table_within count joined) l k tokens x left rest
     within_read true l k left tokens rest x at room e =
-        let lt : count < l.tables = lt_of count l.tables room in
+        let lt : count < l.tables = ltb-true count l.tables room in
         let r = (exact_joined joined).sounds l k left tokens rest x at (sym (with_room count joined l k tokens lt) ∙ e) in
         record {
           front = r.front;

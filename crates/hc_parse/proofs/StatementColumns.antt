@@ -18,8 +18,8 @@ use Rattle.hc_parse.specs.Readers.{one}
 use Rattle.hc_parse.specs.Rules.{Both, Either, OneOf}
 use Rattle.hc_parse.specs.ReadingExpressions.{name_kinds}
 use Rattle.hc_parse.specs.ReadingStatements.{class_of, rule_kinds, column_rule, column_of, column}
+use Rattle.hc_parse.proofs.KindLists.{starts_behind}
 use Rattle.hc_parse.proofs.KindNumbers.{kind_is}
-use Rattle.hc_parse.proofs.Choice.{starts_behind}
 use Rattle.hc_parse.proofs.FaultPrefixes.{kind_of_one}
 use Rattle.hc_parse.proofs.NameFacts.{NameRule}
 use Rattle.hc_parse.proofs.Unquoted.{some_same}

@@ -13,7 +13,7 @@ use Rattle.hc_parse.specs.Reads.{Rule}
 use Rattle.hc_parse.specs.Rules.{Both, Either}
 use Rattle.hc_parse.specs.ReadingExpressions.{name_kinds}
 use Rattle.hc_parse.specs.ReadingStatements.{key_words, key_rule, key_rule_of, rule_kinds, Parts, OneColumn, OneRule, with_part, part_behind, parts}
-use Rattle.hc_parse.proofs.Choice.{starts_behind}
+use Rattle.hc_parse.proofs.KindLists.{starts_behind}
 use Rattle.hc_parse.proofs.Exact.{Exact, Begins, Same, exact_same, exact_skip, exact_made, exact_both, exact_either, exact_either_of}
 use Rattle.hc_parse.proofs.ExactStarts.{begins_skip, begins_either, begins_made, follows_free, follows_begun, follows_made}
 use Rattle.hc_parse.proofs.ExactLists.{exact_chain}

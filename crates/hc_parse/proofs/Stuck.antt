@@ -1,5 +1,6 @@
 -- A fault of the reader of a whole statement is the first.
 use Rattle.std.proofs.Common.{◌≡◌, inl, ⊎_elim, ◌∙◌, ap, ℕ, ◌+◌, List, [], ◌∷◌, ◌++◌, Ok, Err, refl, sym, subst, arith}
+use Rattle.std.proofs.Math.Nat.{zero-add}
 use Rattle.std.proofs.lemmas.List.{append-nil}
 use Rattle.hc_ast.specs.declared.statement.Stmt.{Stmt}
 use Rattle.hc_parse.specs.Lexemes.{Lexeme}
@@ -21,9 +22,6 @@ ends_again : (found : Stmt) (k j : ℕ) (tokens other rest : List Lexeme) (stop 
 ends_again found k j [] other rest stop e same = absurd (cc)
 ends_again found k j (t ∷ tokens) [] rest stop e same = absurd same
 ends_again found k j (t ∷ tokens) (u ∷ other) rest stop e same = ((Unexpected, u ∷ other), refl)
-
-none_more : (k : ℕ) → k ≡ 0 + k
-none_more k = omega arith
 
 module _ (sounds : Sounds HasTable Statement free statement) (sticks : Sticks HasTable (Completes Statement free) statement) where
   in_statement : (l : Limits) (k : ℕ) (tokens rest : List Lexeme) (stop : Stop) → HasTable l → statement l k tokens ≡ Err (stop, rest) → IsStuck (Completes Statement free) whole l k tokens stop rest
@@ -47,7 +45,7 @@ module _ (sounds : Sounds HasTable Statement free statement) (sticks : Sticks Ha
         again = λ m j other h.
             let head = subst (λ (t : List Lexeme). SameHead t other) (sym same) (fails_head Unexpected l m k j rest other h) in
             let a = ends_again found left j behind other rest Unexpected bad head in
-            (a.0, ap (λ (i : ℕ). whole m i (r.front ++ other)) (none_more j) ∙ ap (λ (x : Read Stmt). and_then x ends_there) (r.again m j other (fails_wider Unexpected l m k j rest other h) head) ∙ a.1);
+            (a.0, ap (λ (i : ℕ). whole m i (r.front ++ other)) (sym (zero-add j)) ∙ ap (λ (x : Read Stmt). and_then x ends_there) (r.again m j other (fails_wider Unexpected l m k j rest other h) head) ∙ a.1);
       }
 
   pub whole_sticks : Sticks HasTable (Completes Statement free) whole

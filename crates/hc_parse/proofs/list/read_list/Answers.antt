@@ -4,7 +4,8 @@ use Rattle.hc_parse.specs.Limits.{limits}
 use Rattle.hc_parse.specs.Readers.{listed}
 use Rattle.hc_parse.specs.Seen.{seen}
 use Rattle.hc_parse.specs.Coded.{Stops, read_of}
-use Rattle.hc_parse.proofs.Gathers.{gathers_end, gathers_none, among_one}
+use Rattle.hc_parse.proofs.KindLists.{among_one}
+use Rattle.hc_parse.proofs.Gathers.{gathers_end, gathers_none}
 use Rattle.hc_parse.proofs.CodeLists.{listed_start, listed_on, listed_stop, length_seen}
 use Rattle.hc_parse.proofs.list.read_list.Goals as goal
 use Rattle.hc_parse.proofs.list.read_list.Goals.{else-items-test, then-items-test+then-not-begins}
