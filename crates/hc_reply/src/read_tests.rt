@@ -36,7 +36,11 @@ impl Answers for Items<Transcript> {
 
 // The place of the bytes' fault; nothing where they are read, or memory is short.
 fn fault(alloc: Global, bytes: &[u8]) -> Option<u64> {
-    match read(alloc, bytes) {
+    place(read(alloc, bytes))
+}
+
+fn place<A: Drop>(found: Result<A, ReplyFault>) -> Option<u64> {
+    match found {
         Err(ReplyFault::Bad { at }) => Some(at),
         _ => None,
     }

@@ -2,11 +2,12 @@
 // as what it was. Numbers are at the ends of their ranges, and names have a quote and a line feed.
 ghost use Rattle.std.specs.Prelude.{length, ◌≤◌};
 
-use super::{are_refusals, is_output};
-use crate::{Line, Refusal, Reply, Transcript, print, read};
+use super::{Answers, are_refusals, first_replies, is_output};
+use crate::tests::{Made, Printed, alone};
+use crate::{Line, Refusal, Reply, read};
 use hc_base::{Cid, Full};
 use hc_lex::LexKind;
-use hc_range::{Bytes, KeyBuf};
+use hc_range::KeyBuf;
 use hc_value::{NoMemory, Str};
 use sqlite_items::Items;
 use std::alloc::Global;
@@ -157,30 +158,34 @@ fn text_of_all(alloc: Global) -> Result<Vec<u8>, NoMemory> {
     Ok(out)
 }
 
-// Whether the replies are printed as the text, which is read as them.
-fn agree(alloc: Global, replies: Items<Reply>, text: &[u8]) -> Result<bool, NoMemory> {
-    if replies.is_empty() {
-        return Ok(false);
+fn all(alloc: Global) -> Made<Items<Reply>> {
+    let mut replies = Items::new(alloc);
+    add_all(alloc, &mut replies)?;
+    Ok(replies)
+}
+
+// How many replies there are, where they are printed as the text, which is read as them.
+fn agree<A: Answers + Printed + Drop>(
+    alloc: Global,
+    made: Made<A>,
+    text: &[u8],
+) -> Made<Option<usize>> {
+    let answers = made?;
+    let printed = answers.text(alloc)?;
+    let replies = first_replies(answers.all());
+    if printed.as_slice() == text && are_refusals(read(alloc, text), replies) {
+        Ok(Some(replies.len()))
+    } else {
+        Ok(None)
     }
-    let transcripts = [Transcript {
-        conn: u32::MAX,
-        replies,
-    }];
-    let printed = print(alloc, &transcripts)?;
-    Ok(
-        printed.as_slice() == text
-            && are_refusals(read(alloc, text), transcripts[0].replies.as_slice()),
-    )
 }
 
 #[test]
 fn each_refusal_is_read_again(rt: HostRuntime) -> Result<(), Fail> {
     let alloc = rt.alloc();
-    let mut replies = Items::new(alloc);
-    add_all(alloc, &mut replies)?;
-    assert_eq!(rt; replies.len(), 38);
     let text = text_of_all(alloc)?;
     assert!(rt; is_output(alloc, text.as_slice())?);
-    assert!(rt; agree(alloc, replies, text.as_slice())?);
+    let count = agree(alloc, alone(alloc, u32::MAX, all(alloc)), text.as_slice())?;
+    assert_eq!(rt; count, Some(38));
     Ok(())
 }

@@ -1,6 +1,14 @@
 // Bytes that are no outputs, and how many bytes stand before the fault.
 use super::{busy, fault};
+use std::alloc::Global;
+use std::process::Abort;
 use std::test::Fail;
+
+fn are_at_fault(rt: &impl Abort, alloc: Global, all: &[(&[u8], u64)]) {
+    for each in all {
+        assert_eq!(rt; fault(alloc, each.0), Some(each.1), "{:?}", each.0);
+    }
+}
 
 // Each connection stands once, in order of the numbers, with at least one reply.
 const CONNECTIONS: [(&[u8], u64); 8] = [
@@ -57,10 +65,11 @@ const TEXTS: [(&[u8], u64); 7] = [
     (b"conn 0\nrow '\xc3", 13),
 ];
 
-const BLOBS: [(&[u8], u64); 3] = [
+const BLOBS: [(&[u8], u64); 4] = [
     (b"conn 0\nrow x'00'\n", 11),
     (b"conn 0\nrow X'0a'\n", 14),
     (b"conn 0\nrow X'0'\n", 14),
+    (b"conn 0\nrow X'00\n", 15),
 ];
 
 const ENDINGS: [(&[u8], u64); 5] = [
@@ -71,68 +80,53 @@ const ENDINGS: [(&[u8], u64); 5] = [
     (b"conn 0\nok 1\nrolled back 1\nrolled back 1\n", 28),
 ];
 
-const REFUSALS: [(&[u8], u64); 5] = [
+const REFUSALS: [(&[u8], u64); 6] = [
     (b"conn 0\nerror 7 \n", 14),
     (b"conn 0\nerror 1\n", 14),
     (b"conn 0\nerror 1 lex char at 0\n", 19),
     (b"conn 0\nerror 1 exists t\n", 22),
     (b"conn 0\nerror 1299 't''c'\n", 24),
+    (b"conn 0\nerror 517 conn 1 txn 2\n", 29),
 ];
 
 #[test]
 fn a_connection_is_at_fault(rt: HostRuntime) {
-    for (bytes, at) in CONNECTIONS {
-        assert_eq!(rt; fault(rt.alloc(), bytes), Some(at), "{bytes:?}");
-    }
+    are_at_fault(&rt, rt.alloc(), &CONNECTIONS);
 }
 
 #[test]
 fn connections_do_not_ascend(rt: HostRuntime) {
-    for (bytes, at) in LATER_CONNECTIONS {
-        assert_eq!(rt; fault(rt.alloc(), bytes), Some(at), "{bytes:?}");
-    }
+    are_at_fault(&rt, rt.alloc(), &LATER_CONNECTIONS);
 }
 
 #[test]
 fn a_number_is_at_fault(rt: HostRuntime) {
-    for (bytes, at) in NUMBERS {
-        assert_eq!(rt; fault(rt.alloc(), bytes), Some(at), "{bytes:?}");
-    }
+    are_at_fault(&rt, rt.alloc(), &NUMBERS);
 }
 
 #[test]
 fn a_row_is_at_fault(rt: HostRuntime) {
-    for (bytes, at) in ROWS {
-        assert_eq!(rt; fault(rt.alloc(), bytes), Some(at), "{bytes:?}");
-    }
+    are_at_fault(&rt, rt.alloc(), &ROWS);
 }
 
 #[test]
 fn a_text_is_at_fault(rt: HostRuntime) {
-    for (bytes, at) in TEXTS {
-        assert_eq!(rt; fault(rt.alloc(), bytes), Some(at), "{bytes:?}");
-    }
+    are_at_fault(&rt, rt.alloc(), &TEXTS);
 }
 
 #[test]
 fn a_blob_is_at_fault(rt: HostRuntime) {
-    for (bytes, at) in BLOBS {
-        assert_eq!(rt; fault(rt.alloc(), bytes), Some(at), "{bytes:?}");
-    }
+    are_at_fault(&rt, rt.alloc(), &BLOBS);
 }
 
 #[test]
 fn an_ending_is_at_fault(rt: HostRuntime) {
-    for (bytes, at) in ENDINGS {
-        assert_eq!(rt; fault(rt.alloc(), bytes), Some(at), "{bytes:?}");
-    }
+    are_at_fault(&rt, rt.alloc(), &ENDINGS);
 }
 
 #[test]
 fn a_refusal_is_at_fault(rt: HostRuntime) {
-    for (bytes, at) in REFUSALS {
-        assert_eq!(rt; fault(rt.alloc(), bytes), Some(at), "{bytes:?}");
-    }
+    are_at_fault(&rt, rt.alloc(), &REFUSALS);
 }
 
 // The fault is at the 927th digit.

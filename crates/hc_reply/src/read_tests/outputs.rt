@@ -1,7 +1,9 @@
 // What is read of outputs, which were written out by hand.
 use super::{begins_with_value, busy, connections, is_output};
 use crate::read;
-use hc_value::{Blob, Str, Value};
+use hc_value::{Blob, NoMemory, Str, Value};
+use std::alloc::Global;
+use std::process::Abort;
 use std::test::Fail;
 
 const OUTPUTS: [&[u8]; 9] = [
@@ -21,8 +23,12 @@ const OUTPUTS: [&[u8]; 9] = [
 
 #[test]
 fn outputs_are_read(rt: HostRuntime) -> Result<(), Fail> {
-    for bytes in OUTPUTS {
-        assert!(rt; is_output(rt.alloc(), bytes)?, "{bytes:?}");
+    are_outputs(&rt, rt.alloc(), &OUTPUTS)
+}
+
+fn are_outputs(rt: &impl Abort, alloc: Global, all: &[&[u8]]) -> Result<(), Fail> {
+    for bytes in all {
+        assert!(rt; is_output(alloc, bytes)?, "{bytes:?}");
     }
     Ok(())
 }
@@ -44,11 +50,16 @@ const CONNECTIONS: [(&[u8], usize); 4] = [
 
 #[test]
 fn so_many_connections_are_read(rt: HostRuntime) {
-    for (bytes, count) in CONNECTIONS {
+    have_connections(&rt, rt.alloc(), &CONNECTIONS);
+}
+
+fn have_connections(rt: &impl Abort, alloc: Global, all: &[(&[u8], usize)]) {
+    for each in all {
         assert_eq!(rt;
-            connections(read(rt.alloc(), bytes)),
-            Some(count),
-            "{bytes:?}"
+            connections(read(alloc, each.0)),
+            Some(each.1),
+            "{:?}",
+            each.0
         );
     }
 }
@@ -63,16 +74,22 @@ const INTEGERS: [(&[u8], i64); 5] = [
 
 #[test]
 fn integers_are_read(rt: HostRuntime) {
-    for (bytes, n) in INTEGERS {
-        let found = read(rt.alloc(), bytes);
-        assert!(rt; begins_with_value(found, &Value::Int(n)), "{bytes:?}");
+    begin_with_integers(&rt, rt.alloc(), &INTEGERS);
+}
+
+fn begin_with_integers(rt: &impl Abort, alloc: Global, all: &[(&[u8], i64)]) {
+    for each in all {
+        begins_with(rt, alloc, each.0, &Value::Int(each.1));
     }
+}
+
+fn begins_with(rt: &impl Abort, alloc: Global, bytes: &[u8], value: &Value) {
+    assert!(rt; begins_with_value(read(alloc, bytes), value), "{bytes:?}");
 }
 
 #[test]
 fn null_is_read(rt: HostRuntime) {
-    let found = read(rt.alloc(), b"conn 0\nrow NULL|1\nok 1\n");
-    assert!(rt; begins_with_value(found, &Value::Null));
+    begins_with(&rt, rt.alloc(), b"conn 0\nrow NULL|1\nok 1\n", &Value::Null);
 }
 
 const TEXTS: [(&[u8], &str); 4] = [
@@ -84,11 +101,24 @@ const TEXTS: [(&[u8], &str); 4] = [
 
 #[test]
 fn texts_are_read(rt: HostRuntime) -> Result<(), Fail> {
-    let alloc = rt.alloc();
-    for (bytes, text) in TEXTS {
-        let text = Value::Text(Str::from_text(alloc, text)?);
-        assert!(rt; begins_with_value(read(alloc, bytes), &text), "{bytes:?}");
+    begin_with_texts(&rt, rt.alloc(), &TEXTS)
+}
+
+fn begin_with_texts(rt: &impl Abort, alloc: Global, all: &[(&[u8], &str)]) -> Result<(), Fail> {
+    for each in all {
+        begins_with_text(rt, alloc, each.0, each.1)?;
     }
+    Ok(())
+}
+
+fn begins_with_text(
+    rt: &impl Abort,
+    alloc: Global,
+    bytes: &[u8],
+    text: &str,
+) -> Result<(), NoMemory> {
+    let text = Value::Text(Str::from_text(alloc, text)?);
+    begins_with(rt, alloc, bytes, &text);
     Ok(())
 }
 
@@ -102,10 +132,23 @@ const BLOBS: [(&[u8], &[u8]); 2] = [
 
 #[test]
 fn blobs_are_read(rt: HostRuntime) -> Result<(), Fail> {
-    let alloc = rt.alloc();
-    for (bytes, blob) in BLOBS {
-        let blob = Value::Blob(Blob::from_slice(alloc, blob)?);
-        assert!(rt; begins_with_value(read(alloc, bytes), &blob), "{bytes:?}");
+    begin_with_blobs(&rt, rt.alloc(), &BLOBS)
+}
+
+fn begin_with_blobs(rt: &impl Abort, alloc: Global, all: &[(&[u8], &[u8])]) -> Result<(), Fail> {
+    for each in all {
+        begins_with_blob(rt, alloc, each.0, each.1)?;
     }
+    Ok(())
+}
+
+fn begins_with_blob(
+    rt: &impl Abort,
+    alloc: Global,
+    bytes: &[u8],
+    blob: &[u8],
+) -> Result<(), NoMemory> {
+    let blob = Value::Blob(Blob::from_slice(alloc, blob)?);
+    begins_with(rt, alloc, bytes, &blob);
     Ok(())
 }
