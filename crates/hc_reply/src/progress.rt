@@ -1,5 +1,5 @@
 // What was read of an output so far, and one line more.
-ghost use Rattle.std.specs.Prelude.{◌≡◌, IfOk, IfErr};
+ghost use Rattle.std.specs.Prelude.{◌≡◌, IfOk, IfErr, OnOk};
 ghost use Rattle.hc_reply.specs.declared.fault.ReplyFault.TheVariants.{NoMemory};
 ghost use Rattle.hc_reply.specs.Progress.{close, finish, is_whole, low_of, start, step, turn_of};
 
@@ -9,6 +9,7 @@ use crate::turn::Turn;
 use crate::{Ending, Line, Reply, Row, Transcript};
 use sqlite_items::Items;
 use std::alloc::Global;
+use std::mem;
 
 /// Whole transcripts, and the parts of the one that is still open.
 #[derive(Debug, Drop)]
@@ -72,35 +73,17 @@ pub fn turn_of(progress: &Progress) -> Turn
     }
 }
 
-// The open reply closed, where its last line was read.
-fn close(alloc: Global, progress: Progress, ending: Option<Ending>) -> Result<Progress, ReplyFault>
-    ensures closed { IfOk result (λ after. after ≡ close progress ending) }
+// Closes the open reply, where its last line was read.
+fn close(alloc: Global, progress: &mut Progress, ending: Option<Ending>) -> Result<(), ReplyFault>
+    ensures closed { OnOk result (progress.new ≡ close progress.old ending) }
     ensures full { IfErr result (λ fault. fault ≡ NoMemory) }
 {
-    let Progress {
-        done,
-        conn,
-        mut replies,
-        rows,
-        last,
-    } = progress;
-    let Some(last) = last else {
-        return Ok(Progress {
-            done,
-            conn,
-            replies,
-            rows,
-            last: None,
-        });
+    let Some(last) = progress.last.take() else {
+        return Ok(());
     };
-    replies.push(Reply { rows, last, ending })?;
-    Ok(Progress {
-        done,
-        conn,
-        replies,
-        rows: Items::new(alloc),
-        last: None,
-    })
+    let rows = mem::replace(&mut progress.rows, Items::new(alloc));
+    progress.replies.push(Reply { rows, last, ending })?;
+    Ok(())
 }
 
 /// The transcripts that were read.
@@ -108,12 +91,14 @@ pub fn finish(alloc: Global, progress: Progress) -> Result<Items<Transcript>, Re
     ensures all { IfOk result (λ transcripts. transcripts ≡ finish progress) }
     ensures full { IfErr result (λ fault. fault ≡ NoMemory) }
 {
+    let mut whole = progress;
+    close(alloc, &mut whole, None)?;
     let Progress {
         mut done,
         conn,
         replies,
         ..
-    } = close(alloc, progress, None)?;
+    } = whole;
     if let Some(conn) = conn {
         done.push(Transcript { conn, replies })?;
     }
@@ -121,31 +106,25 @@ pub fn finish(alloc: Global, progress: Progress) -> Result<Items<Transcript>, Re
 }
 
 /// One line more.
-pub fn step(alloc: Global, progress: Progress, line: Item) -> Result<Progress, ReplyFault>
-    ensures after { IfOk result (λ after. after ≡ step progress line) }
+pub fn step(alloc: Global, progress: &mut Progress, line: Item) -> Result<(), ReplyFault>
+    ensures after { OnOk result (progress.new ≡ step progress.old line) }
     ensures full { IfErr result (λ fault. fault ≡ NoMemory) }
 {
     match line {
         Item::Conn(number) => {
-            let done = finish(alloc, progress)?;
-            Ok(Progress {
-                done,
-                conn: Some(number),
-                replies: Items::new(alloc),
-                rows: Items::new(alloc),
-                last: None,
-            })
+            let before = mem::replace(progress, start(alloc));
+            progress.done = finish(alloc, before)?;
+            progress.conn = Some(number);
         }
         Item::Row(row) => {
-            let mut after = close(alloc, progress, None)?;
-            after.rows.push(row)?;
-            Ok(after)
+            close(alloc, progress, None)?;
+            progress.rows.push(row)?;
         }
         Item::Last(line) => {
-            let mut after = close(alloc, progress, None)?;
-            after.last = Some(line);
-            Ok(after)
+            close(alloc, progress, None)?;
+            progress.last = Some(line);
         }
-        Item::Ending(ending) => close(alloc, progress, Some(ending)),
+        Item::Ending(ending) => close(alloc, progress, Some(ending))?,
     }
+    Ok(())
 }

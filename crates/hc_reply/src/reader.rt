@@ -26,7 +26,7 @@ pub fn read(alloc: Global, bytes: &[u8]) -> Result<Items<Transcript>, ReplyFault
     while !is_end(&progress, rest) {
         match read_item(alloc, turn_of(&progress), low_of(&progress), rest) {
             Ok((line, left)) => {
-                progress = step(alloc, progress, line)?;
+                step(alloc, &mut progress, line)?;
                 rest = left;
             }
             Err(stop) => return Err(fault_of(bytes.len(), stop)),

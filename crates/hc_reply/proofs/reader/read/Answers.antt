@@ -10,8 +10,8 @@ use Rattle.hc_reply.proofs.reader.read.Goals as goal
 pub loop-rest-preserved : goal.loop-rest-preserved
 loop-rest-preserved c =
     let found = c.in-Ok.ensures.found in
-    read_on c.args.bytes.now c.loop-rest.rest.now c.loop-rest.progress c.loop-rest.invariant c.in-Ok.line c.in-Ok.left.now c.in_ok-progress-in-Ok.progress
-    (at_turn (λ t n. IsItem t n c.in-Ok.line) c.turn_of.ensures c.low_of.ensures found.0) found.1 c.in_ok-progress-in-Ok.ensures.after
+    read_on c.args.bytes.now c.loop-rest.rest.now c.loop-rest.progress c.loop-rest.invariant c.in-Ok.line c.in-Ok.left.now c.step.new.progress
+    (at_turn (λ t n. IsItem t n c.in-Ok.line) c.turn_of.ensures c.low_of.ensures found.0) found.1 c.in_ok-step-in-Ok.ensures.after
 
 pub returns-in-Err-clause-only : goal.returns-in-Err-clause-only
 returns-in-Err-clause-only c = λ ts is.
