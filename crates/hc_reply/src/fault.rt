@@ -4,7 +4,7 @@ ghost use Rattle.hc_reply.specs.declared.fault.ReplyFault.TheVariants.{NoMemory}
 use std::alloc::{AllocError, AllocFailed};
 
 /// Why no transcripts were read.
-#[derive(Debug, PartialEq, Eq, Drop)]
+#[derive(Debug, Drop)]
 pub enum ReplyFault {
     /// The bytes are no output. `at` is how many bytes stand before the fault: the first byte with which
     /// no output goes on, or the end, where the bytes are only the beginning of one.

@@ -6,7 +6,7 @@ ghost use Rattle.hc_reply.specs.Words.{ending_words, bare_words, number_words, n
 use hc_lex::LexKind;
 
 /// Lines that tell how a transaction ended, with a number of commits.
-#[derive(Debug, Clone, Copy, PartialEq, Eq)]
+#[derive(Debug, Clone, Copy)]
 pub enum EndingLine {
     Commit,
     Snapshot,
@@ -14,7 +14,7 @@ pub enum EndingLine {
 }
 
 /// Refusals behind whose words nothing stands.
-#[derive(Debug, Clone, Copy, PartialEq, Eq)]
+#[derive(Debug, Clone, Copy)]
 pub enum BareLine {
     Within,
     NoTransaction,
@@ -28,7 +28,7 @@ pub enum BareLine {
 }
 
 /// Refusals with one number of 32 bits: a place, or a limit.
-#[derive(Debug, Clone, Copy, PartialEq, Eq)]
+#[derive(Debug, Clone, Copy)]
 pub enum NumberLine {
     Lex(LexKind),
     Syntax,
@@ -38,7 +38,7 @@ pub enum NumberLine {
 }
 
 /// Refusals with a name.
-#[derive(Debug, Clone, Copy, PartialEq, Eq)]
+#[derive(Debug, Clone, Copy)]
 pub enum NameLine {
     NoSavepoint,
     NoTable,
@@ -54,7 +54,7 @@ pub enum NameLine {
 }
 
 /// Refusals with two names.
-#[derive(Debug, Clone, Copy, PartialEq, Eq)]
+#[derive(Debug, Clone, Copy)]
 pub enum NamesLine {
     NotNull,
     Primary,
@@ -62,14 +62,14 @@ pub enum NamesLine {
 }
 
 /// Refusals with two numbers of 32 bits.
-#[derive(Debug, Clone, Copy, PartialEq, Eq)]
+#[derive(Debug, Clone, Copy)]
 pub enum NumbersLine {
     Arity,
     Pages,
 }
 
 /// Every line of the output.
-#[derive(Debug, Clone, Copy, PartialEq, Eq)]
+#[derive(Debug, Clone, Copy)]
 pub enum Opening {
     Conn,
     Row,

@@ -4,7 +4,7 @@ use hc_range::KeyBuf;
 use hc_value::Str;
 
 /// Why a statement was refused. The numbers are SQLite's result codes.
-#[derive(Debug, PartialEq, Eq, Drop)]
+#[derive(Debug, Drop)]
 pub enum Refusal {
     /// 1: at this byte of the statement stands no token.
     Lex { kind: LexKind, at: u32 },
