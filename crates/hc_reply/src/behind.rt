@@ -3,7 +3,7 @@ ghost use Rattle.std.specs.Prelude.{◌≡◌, ◌^◌, ◌<◌, IfOk, IfErr};
 ghost use Rattle.hc_reply.specs.declared.opening.Opening.TheVariants as opens;
 ghost use Rattle.hc_reply.specs.Items.{IsReadItem, StopsAtItem, bare_of, ending_of, name_of, number_of};
 
-use crate::ended::{number_before, text_before};
+use crate::ended::{GREATEST_32, number_before, text_before};
 use crate::item::Item;
 use crate::opening::{BareLine, EndingLine, NameLine, NumberLine};
 use crate::row::row;
@@ -13,8 +13,6 @@ use crate::{Ending, Line, Refusal, Row};
 use hc_base::Full;
 use hc_value::Str;
 use std::alloc::Global;
-
-const GREATEST_32: u64 = 4_294_967_295;
 
 /// A connection's number, which is no less than `low`, and the line's end.
 pub fn conn(low: u64, bytes: &[u8]) -> Result<(Item, &[u8]), Stop<'_>>

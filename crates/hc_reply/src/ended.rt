@@ -12,6 +12,9 @@ use crate::word::behind_word;
 use hc_value::Str;
 use std::alloc::Global;
 
+/// The greatest number of 32 bits.
+pub const GREATEST_32: u64 = 4_294_967_295;
+
 /// A number within a range and the words behind it, and what is left.
 pub fn number_before<'a>(
     low: u64,

@@ -5,7 +5,7 @@ ghost use Rattle.hc_reply.specs.Items.{IsReadItem, StopsAtItem, names_of, number
 ghost use Rattle.hc_reply.specs.Stops.{Anything, StopsIn};
 
 use crate::blob::blob;
-use crate::ended::{number_before, text_before};
+use crate::ended::{GREATEST_32, number_before, text_before};
 use crate::item::Item;
 use crate::opening::{NamesLine, NumbersLine, words_between};
 use crate::stop::Stop;
@@ -16,8 +16,6 @@ use hc_base::{Cid, Full};
 use hc_range::{KeyBuf, LONGEST_KEY};
 use hc_value::Str;
 use std::alloc::Global;
-
-const GREATEST_32: u64 = 4_294_967_295;
 
 /// An item's number, and the line's end.
 pub fn no_item(low: u64, bytes: &[u8]) -> Result<(Item, &[u8]), Stop<'_>>
