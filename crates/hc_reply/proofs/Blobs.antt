@@ -6,8 +6,8 @@ use Rattle.std.proofs.lemmas.List.{append-nil, length-append}
 use Rattle.hc_reply.specs.Output.{digit, byte_digits, blob_text}
 use Rattle.hc_reply.specs.Reading.{AreBytes}
 use Rattle.hc_reply.specs.Blobs.{IsWithinLimit, IsBlob, NoHexDigit}
-use Rattle.hc_reply.specs.Stops.{NoQuote, SameFirst, Anything, IsStuck, IsPrefixFree}
-use Rattle.hc_reply.proofs.Texts.{no_quote_there}
+use Rattle.hc_reply.specs.Stops.{NoQuote, SameFirst, Anything, IsStuck}
+use Rattle.hc_reply.proofs.Following.{IsPrefixFree, same_ends, no_quote_there, same_byte}
 
 -- ---- digits
 
@@ -122,27 +122,26 @@ module _ (limit : Option ℕ) where
   comes P (x ∷ d) behind other fits e ends goes = goes x d (hex d ++ 39 ∷ behind) refl fits.0 (sym e)
 
   not_hex : (rest other : List ℕ) → SameFirst rest other → NoHexDigit rest → NoHexDigit other
-  not_hex [] [] same none d left small e = none d left small e
-  not_hex [] (o ∷ other) same none d left small e = same
-  not_hex (r ∷ rest) [] same none d left small e = same
-  not_hex (r ∷ rest) (o ∷ other) same none d left small e =
-      let first : o ≡ digit d = cc in
-      none d rest small (ap (λ (b : ℕ). b ∷ rest) (same ∙ first))
+  not_hex = same_ends NoHexDigit (λ b rest other none d left small e. none d rest small (let first : b ≡ digit d = cc in ap (λ (k : ℕ). k ∷ rest) first))
 
-  pub stuck_at_end : (out bytes rest : List ℕ) → IsBlob limit out → bytes ≡ begun out ++ rest → NoHexDigit rest → NoQuote rest → Stuck bytes rest
-  stuck_at_end out bytes rest is all not_digit not_quote = record {
+  -- a stop behind what was read, where no blob goes on
+  stuck_there : (out bytes rest : List ℕ) → IsBlob limit out → bytes ≡ begun out ++ rest
+      → ((v behind other : List ℕ) → IsBlob limit v → SameFirst rest other → Behind out v behind other → ⊥) → Stuck bytes rest
+  stuck_there out bytes rest is all none = record {
     before = begun out;
     splits = all;
     value = out;
     more = 39 ∷ [];
     has = is;
     begins = refl;
-    none = λ v behind other fits ends same e.
-        let b = blobs_behind out v behind other is.0 fits.0 e in
-        comes ⊥ b.0 behind other b.2 b.3
-        (λ nothing quote. subst NoQuote quote (no_quote_there rest other same not_quote) refl)
-        (λ x d left some byte goes. not_hex rest other same not_digit (x / 16) (digit (x % 16) ∷ left) (omega arith) goes);
+    none = λ v behind other fits ends same e. none v behind other fits same (blobs_behind out v behind other is.0 fits.0 e);
   }
+
+  pub stuck_at_end : (out bytes rest : List ℕ) → IsBlob limit out → bytes ≡ begun out ++ rest → NoHexDigit rest → NoQuote rest → Stuck bytes rest
+  stuck_at_end out bytes rest is all not_digit not_quote = stuck_there out bytes rest is all (λ v behind other fits same b.
+      comes ⊥ b.0 behind other b.2 b.3
+      (λ nothing quote. subst NoQuote quote (no_quote_there rest other same not_quote) refl)
+      (λ x d left some byte goes. not_hex rest other same not_digit (x / 16) (digit (x % 16) ∷ left) (omega arith) goes))
 
   full_at : (n : ℕ) (m : Option ℕ) (k : ℕ) → IsWithinLimit m k → n ≤ k → IsWithinLimit m n
   full_at n None k is le = tt
@@ -150,25 +149,15 @@ module _ (limit : Option ℕ) where
 
   pub stuck_when_full : (out bytes rest behind : List ℕ) (d : ℕ) → IsBlob limit out → bytes ≡ begun out ++ rest → d < 16 → rest ≡ digit d ∷ behind
       → (IsWithinLimit limit (length out + 1) → ⊥) → Stuck bytes rest
-  stuck_when_full out bytes rest behind d is all small first full = record {
-    before = begun out;
-    splits = all;
-    value = out;
-    more = 39 ∷ [];
-    has = is;
-    begins = refl;
-    none = λ v after other fits ends same e.
-        let b = blobs_behind out v after other is.0 fits.0 e in
-        comes ⊥ b.0 after other b.2 b.3
-        (λ nothing quote. no_quote_digit d small (there other after (subst (λ (l : List ℕ). SameFirst l other) first same) quote))
-        (λ x e rest some byte goes.
-        let long : length v ≡ length out + length (x ∷ e) = ap length (b.1 ∙ ap (λ (l : List ℕ). out ++ l) some) ∙ length-append out (x ∷ e) in
-        full (full_at (length out + 1) limit (length v) fits.1 (omega (arith, long))));
-  }
-    where
-      there : (other after : List ℕ) → SameFirst (digit d ∷ behind) other → other ≡ 39 ∷ after → 39 ≡ digit d
-      there [] after same e = absurd same
-      there (o ∷ other) after same e = let is : o ≡ 39 = cc in sym (same ∙ is)
+  stuck_when_full out bytes rest behind d is all small first full = stuck_there out bytes rest is all (λ v after other fits same b.
+      comes ⊥ b.0 after other b.2 b.3
+      (λ nothing quote.
+      let o = same_byte (digit d) behind other (subst (λ (l : List ℕ). SameFirst l other) first same) in
+      let there : 39 ≡ digit d = (let h : 39 ∷ after ≡ digit d ∷ o.0 = sym quote ∙ o.1 in cc) in
+      no_quote_digit d small there)
+      (λ x e rest some byte goes.
+      let long : length v ≡ length out + length (x ∷ e) = ap length (b.1 ∙ ap (λ (l : List ℕ). out ++ l) some) ∙ length-append out (x ∷ e) in
+      full (full_at (length out + 1) limit (length v) fits.1 (omega (arith, long)))))
 
   bytes_more : (out : List ℕ) (b : ℕ) → AreBytes out → b < 256 → AreBytes (out ++ b ∷ [])
   bytes_more [] b are small = (small, tt)

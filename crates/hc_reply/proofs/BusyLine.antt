@@ -5,7 +5,8 @@ use Rattle.hc_reply.specs.declared.opening.Opening.TheVariants as opens
 use Rattle.hc_reply.specs.Output.{blob_text}
 use Rattle.hc_reply.specs.Numbers.{IsWithin}
 use Rattle.hc_reply.specs.Items.{FitsFrom, behind_end, IsKey, key_end}
-use Rattle.hc_reply.specs.Stops.{Anything, NoDigit, IsStuck, IsPrefixFree}
+use Rattle.hc_reply.specs.Stops.{Anything, NoDigit, IsStuck}
+use Rattle.hc_reply.proofs.Following.{IsPrefixFree}
 use Rattle.hc_reply.proofs.Sequences.{ended_free, stuck_told}
 use Rattle.hc_reply.proofs.Digits.{number_free}
 use Rattle.hc_reply.proofs.Blobs.{nothing_is}

@@ -7,7 +7,8 @@ use Rattle.std.proofs.lemmas.Bool.{cases_lt}
 use Rattle.std.specs.Str.Parse.{digits_value_after, digits_value}
 use Rattle.std.specs.Char.{digit_value}
 use Rattle.std.proofs.lemmas.Fmt.{decimal_step, decimal_step_wide, decimal_digit, decimal_by_steps, decimal_injective, decimal_is_IsNumeral, decimal_is_IsNumeral_wide, decimal_nonempty, first_decimal}
-use Rattle.hc_reply.specs.Stops.{NoDigit, SameFirst, IsStuck, IsPrefixFree}
+use Rattle.hc_reply.specs.Stops.{NoDigit, SameFirst, IsStuck}
+use Rattle.hc_reply.proofs.Following.{IsPrefixFree, no_digit_there, same_byte}
 use Rattle.hc_reply.specs.Numbers.{IsWithin, BeginsWith, SomeBegins, NoneBegins}
 
 abbrev IsDigit : ℕ → Type 0
@@ -26,18 +27,14 @@ decimal_digits = decimal_by_steps (λ m ds. AreDigits ds) (λ m l. ((omega arith
 
 -- ---- the end of digits
 
+no_digit_first : (c : ℕ) (rest : List ℕ) → NoDigit (c ∷ rest) → IsDigit c → ⊥
+no_digit_first c rest (inl low) is = omega (arith, is.0)
+no_digit_first c rest (inr high) is = omega (arith, is.1)
+
 -- digits that go on to a digit of the other side go on with it
 pub covers : (xs behind ds : List ℕ) (c : ℕ) (o : List ℕ) → AreDigits ds → IsDigit c → NoDigit behind → xs ++ behind ≡ ds ++ c ∷ o → (more : List ℕ) × (xs ≡ ds ++ c ∷ more)
-covers [] behind [] c o are is nd e = absurd (no_digit (subst NoDigit e nd) is)
-  where
-    no_digit : NoDigit (c ∷ o) → IsDigit c → ⊥
-    no_digit (inl low) is = omega (arith, is.0)
-    no_digit (inr high) is = omega (arith, is.1)
-covers [] behind (d ∷ ds) c o are is nd e = absurd (no_digit (subst NoDigit e nd) are.0)
-  where
-    no_digit : NoDigit (d ∷ ds ++ c ∷ o) → IsDigit d → ⊥
-    no_digit (inl low) is = omega (arith, is.0)
-    no_digit (inr high) is = omega (arith, is.1)
+covers [] behind [] c o are is nd e = absurd (no_digit_first c o (subst NoDigit e nd) is)
+covers [] behind (d ∷ ds) c o are is nd e = absurd (no_digit_first d (ds ++ c ∷ o) (subst NoDigit e nd) are.0)
 covers (x ∷ xs) behind [] c o are is nd e = let first : x ≡ c = cc in (xs, ap (λ (k : ℕ). k ∷ xs) first)
 covers (x ∷ xs) behind (d ∷ ds) c o are is nd e =
     let first : x ≡ d = cc in
@@ -167,55 +164,49 @@ module _ (low high : ℕ) (le : low ≤ high) (small : high < 2 ^ 64) where
   fits : (v : ℕ) → IsWithin low high v → v < 2 ^ 64
   fits v is = omega (arith, is.1)
 
-  pub no_digit_there : (rest other : List ℕ) → NoDigit rest → SameFirst rest other → NoDigit other
-  no_digit_there [] [] nd same = tt
-  no_digit_there [] (o ∷ other) nd same = absurd same
-  no_digit_there (r ∷ rest) [] nd same = absurd same
-  no_digit_there (r ∷ rest) (o ∷ other) nd same = subst (λ (b : ℕ). NoDigit (b ∷ other)) same nd
-
-  -- what goes on with the same digit
-  digit_there : (c : ℕ) (rest other : List ℕ) → SameFirst (c ∷ rest) other → (o : List ℕ) × (other ≡ c ∷ o)
-  digit_there c rest [] same = absurd same
-  digit_there c rest (d ∷ other) same = (other, ap (λ (b : ℕ). b ∷ other) (sym same))
-
   pub number_free : IsPrefixFree NoDigit (IsWithin low high) decimal
   number_free v w r s isv isw nr ns e =
       let both = same_digits (decimal v) (decimal w) r s (decimal_digits v (fits v isv)) (decimal_digits w (fits w isw)) nr ns e in
       (decimal_injective v w (fits v isv) (fits w isw) both.0, both.1)
 
-  pub stuck_without_digit : (bytes : List ℕ) → NoDigit bytes → Stuck bytes bytes
-  stuck_without_digit bytes nd = record {
+  -- a stop at the first byte
+  stuck_at_start : (bytes : List ℕ) → ((v : ℕ) (behind other : List ℕ) → IsWithin low high v → NoDigit behind → SameFirst bytes other → decimal v ++ behind ≡ other → ⊥) → Stuck bytes bytes
+  stuck_at_start bytes none = record {
     before = [];
     splits = refl;
     value = low;
     more = decimal low;
     has = (let h : low ≤ low = omega arith in h, le);
     begins = refl;
-    none = λ v behind other is ends same e. wrong v (decimal v) refl behind other is (no_digit_there bytes other nd same) e;
+    none = none;
   }
+
+  -- a stop behind digits with which some number of the range begins
+  stuck_behind : (n : ℕ) (bytes rest : List ℕ) → bytes ≡ decimal n ++ rest → SomeBegins n low high
+      → ((v : ℕ) (behind other : List ℕ) → IsWithin low high v → NoDigit behind → SameFirst rest other → decimal v ++ behind ≡ decimal n ++ other → ⊥) → Stuck bytes rest
+  stuck_behind n bytes rest all some none = record {
+    before = decimal n;
+    splits = all;
+    value = some.0;
+    more = some.2.0;
+    has = some.1;
+    begins = some.2.1;
+    none = none;
+  }
+
+  pub stuck_without_digit : (bytes : List ℕ) → NoDigit bytes → Stuck bytes bytes
+  stuck_without_digit bytes nd = stuck_at_start bytes (λ v behind other is ends same e. wrong v (decimal v) refl behind other is (no_digit_there bytes other same nd) e)
     where
       wrong : (v : ℕ) (ds : List ℕ) → decimal v ≡ ds → (behind other : List ℕ) → IsWithin low high v → NoDigit other → decimal v ++ behind ≡ other → ⊥
       wrong v [] is behind other within none e = omega (arith, decimal_nonempty v (fits v within), ap length is)
       wrong v (c ∷ ds) is behind other within none e =
-          by (subst NoDigit (sym e ∙ ap (λ (l : List ℕ). l ++ behind) is) none) (first_digit v c ds (fits v within) is)
-        where
-          by : NoDigit (c ∷ ds ++ behind) → IsDigit c → ⊥
-          by (inl below) digit = omega (arith, digit.0)
-          by (inr above) digit = omega (arith, digit.1)
+          no_digit_first c (ds ++ behind) (subst NoDigit (sym e ∙ ap (λ (l : List ℕ). l ++ behind) is) none) (first_digit v c ds (fits v within) is)
 
   pub stuck_at_first : (d : ℕ) (bytes behind : List ℕ) → d < 10 → bytes ≡ (48 + d) ∷ behind → NoneBegins d low high → Stuck bytes bytes
-  stuck_at_first d bytes behind one all nd = record {
-    before = [];
-    splits = refl;
-    value = low;
-    more = decimal low;
-    has = (let h : low ≤ low = omega arith in h, le);
-    begins = refl;
-    none = λ v after other is ends same e.
-        let o = digit_there (48 + d) behind other (subst (λ (l : List ℕ). SameFirst l other) all same) in
-        let c = covers (decimal v) after [] (48 + d) o.0 tt (omega arith, omega arith) ends (e ∙ o.1) in
-        nd v is (c.0, c.1 ∙ ap (λ (l : List ℕ). l ++ c.0) (sym (decimal_digit d one)));
-  }
+  stuck_at_first d bytes behind one all nd = stuck_at_start bytes (λ v after other is ends same e.
+      let o = same_byte (48 + d) behind other (subst (λ (l : List ℕ). SameFirst l other) all same) in
+      let c = covers (decimal v) after [] (48 + d) o.0 tt (omega arith, omega arith) ends (e ∙ o.1) in
+      nd v is (c.0, c.1 ∙ ap (λ (l : List ℕ). l ++ c.0) (sym (decimal_digit d one))))
 
   -- no number has a digit behind a first zero
   no_more_behind_zero : (v : ℕ) (c : ℕ) (more : List ℕ) → v < 2 ^ 64 → decimal v ≡ 48 ∷ c ∷ more → ⊥
@@ -230,18 +221,10 @@ module _ (low high : ℕ) (le : low ≤ high) (small : high < 2 ^ 64) where
 
   pub stuck_at_digit : (n d : ℕ) (bytes rest behind : List ℕ) → n < 2 ^ 64 → d < 10 → bytes ≡ decimal n ++ rest → rest ≡ (48 + d) ∷ behind → SomeBegins n low high
       → (0 < n → NoneBegins (n * 10 + d) low high) → Stuck bytes rest
-  stuck_at_digit n d bytes rest behind fit one all first some nd = record {
-    before = decimal n;
-    splits = all;
-    value = some.0;
-    more = some.2.0;
-    has = some.1;
-    begins = some.2.1;
-    none = λ v after other is ends same e.
-        let o = digit_there (48 + d) behind other (subst (λ (l : List ℕ). SameFirst l other) first same) in
-        let c = covers (decimal v) after (decimal n) (48 + d) o.0 (decimal_digits n fit) (omega arith, omega arith) ends (e ∙ ap (λ (l : List ℕ). decimal n ++ l) o.1) in
-        by n refl v is c.0 c.1;
-  }
+  stuck_at_digit n d bytes rest behind fit one all first some nd = stuck_behind n bytes rest all some (λ v after other is ends same e.
+      let o = same_byte (48 + d) behind other (subst (λ (l : List ℕ). SameFirst l other) first same) in
+      let c = covers (decimal v) after (decimal n) (48 + d) o.0 (decimal_digits n fit) (omega arith, omega arith) ends (e ∙ ap (λ (l : List ℕ). decimal n ++ l) o.1) in
+      by n refl v is c.0 c.1)
     where
       by : (k : ℕ) → k ≡ n → (v : ℕ) → IsWithin low high v → (more : List ℕ) → decimal v ≡ decimal n ++ (48 + d) ∷ more → ⊥
       by zero k v is more e = no_more_behind_zero v (48 + d) more (fits v is) (e ∙ ap (λ (m : ℕ). decimal m ++ (48 + d) ∷ more) (sym k) ∙ ap (λ (l : List ℕ). l ++ (48 + d) ∷ more) (decimal_digit 0 (omega arith)))
@@ -250,17 +233,9 @@ module _ (low high : ℕ) (le : low ≤ high) (small : high < 2 ^ 64) where
           nd above v is (more, e ∙ sym (append_assoc (decimal n) ((48 + d) ∷ []) more) ∙ ap (λ (l : List ℕ). l ++ more) (sym (digit_behind n d above fit one)))
 
   pub stuck_too_low : (n : ℕ) (bytes rest : List ℕ) → n < 2 ^ 64 → bytes ≡ decimal n ++ rest → NoDigit rest → SomeBegins n low high → n < low → Stuck bytes rest
-  stuck_too_low n bytes rest fit all nd some below = record {
-    before = decimal n;
-    splits = all;
-    value = some.0;
-    more = some.2.0;
-    has = some.1;
-    begins = some.2.1;
-    none = λ v after other is ends same e.
-        let both = same_digits (decimal v) (decimal n) after other (decimal_digits v (fits v is)) (decimal_digits n fit) ends (no_digit_there rest other nd same) e in
-        omega (arith, decimal_injective v n (fits v is) fit both.0, is.0);
-  }
+  stuck_too_low n bytes rest fit all nd some below = stuck_behind n bytes rest all some (λ v after other is ends same e.
+      let both = same_digits (decimal v) (decimal n) after other (decimal_digits v (fits v is)) (decimal_digits n fit) ends (no_digit_there rest other same nd) e in
+      omega (arith, decimal_injective v n (fits v is) fit both.0, is.0))
 
   pub within_high : (n : ℕ) → n < 10 ^ 64 → SomeBegins n low high → n ≤ high
   within_high n fit some = omega (arith, some.1.1, begins_above some.0 n (fits some.0 some.1) fit some.2)

@@ -4,7 +4,8 @@ use Rattle.std.proofs.lemmas.List.{append_cancel_left}
 use Rattle.hc_reply.specs.Laws.{NoOpeningBeginsAnother}
 use Rattle.hc_reply.specs.Words.{opening_words}
 use Rattle.hc_reply.specs.Openings.{IsAmong}
-use Rattle.hc_reply.specs.Stops.{Anything, IsPrefixFree}
+use Rattle.hc_reply.specs.Stops.{Anything}
+use Rattle.hc_reply.proofs.Following.{IsPrefixFree}
 use Rattle.hc_lex.specs.declared.fault.LexKind.TheVariants as lex
 use Rattle.hc_reply.specs.declared.opening.EndingLine.TheVariants as ending
 use Rattle.hc_reply.specs.declared.opening.BareLine.TheVariants as bare

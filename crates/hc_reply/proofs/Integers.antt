@@ -4,7 +4,8 @@ use Rattle.std.specs.Prelude.{decimal}
 use Rattle.std.specs.Fmt.{signed_decimal}
 use Rattle.std.proofs.lemmas.Fmt.{decimal_nonempty}
 use Rattle.hc_reply.specs.Numbers.{IsWithin}
-use Rattle.hc_reply.specs.Stops.{NoDigit, NoMinus, SameFirst, IsStuck, IsPrefixFree}
+use Rattle.hc_reply.specs.Stops.{NoDigit, NoMinus, SameFirst, IsStuck}
+use Rattle.hc_reply.proofs.Following.{IsPrefixFree, same_ends, same_behind}
 use Rattle.hc_reply.proofs.Digits.{AreDigits, decimal_digits, number_free}
 
 -- the first byte of a number is a digit
@@ -15,25 +16,9 @@ decimal_head n behind b o small e = by (decimal n) (decimal_digits n small) (dec
     by [] are some e = absurd (omega (arith, some))
     by (d ∷ ds) are some e = let first : d ≡ b = cc in (omega (arith, are.0, first), omega (arith, are.0, first))
 
--- where bytes begin with b, what goes on with the same byte does too
-pub head_there : (bytes before rest other t : List ℕ) (b : ℕ) → bytes ≡ before ++ rest → bytes ≡ b ∷ t → SameFirst rest other → (o : List ℕ) × (before ++ other ≡ b ∷ o)
-head_there bytes [] [] other t b splits first same = absurd (let bad : [] ≡ b ∷ t = sym splits ∙ first in cc)
-head_there bytes [] (r ∷ rest) [] t b splits first same = absurd same
-head_there bytes [] (r ∷ rest) (o ∷ other) t b splits first same =
-    let h : r ∷ rest ≡ b ∷ t = sym splits ∙ first in
-    let is : r ≡ b = cc in
-    (other, ap (λ (k : ℕ). k ∷ other) (sym same ∙ is))
-head_there bytes (x ∷ before) rest other t b splits first same =
-    let h : x ∷ (before ++ rest) ≡ b ∷ t = sym splits ∙ first in
-    let is : x ≡ b = cc in
-    (before ++ other, ap (λ (k : ℕ). k ∷ (before ++ other)) is)
-
-pub no_minus_there : (bytes before rest other : List ℕ) → bytes ≡ before ++ rest → SameFirst rest other → NoMinus bytes → NoMinus (before ++ other)
-no_minus_there bytes [] [] [] splits same none = tt
-no_minus_there bytes [] [] (o ∷ other) splits same none = absurd same
-no_minus_there bytes [] (r ∷ rest) [] splits same none = absurd same
-no_minus_there bytes [] (r ∷ rest) (o ∷ other) splits same none = subst (λ (k : ℕ). k ≢ 45) same (subst NoMinus splits none)
-no_minus_there bytes (x ∷ before) rest other splits same none = subst NoMinus splits none
+no_minus_there : (bytes before rest other : List ℕ) → bytes ≡ before ++ rest → SameFirst rest other → NoMinus bytes → NoMinus (before ++ other)
+no_minus_there bytes before rest other splits same none =
+    same_ends NoMinus (λ b rest other none. none) (before ++ rest) (before ++ other) (same_behind before rest other same) (subst NoMinus splits none)
 
 abbrev Stuck : List ℕ → List ℕ → Type 0
 Stuck bytes rest = IsStuck NoDigit (FitsSigned w64) signed_decimal bytes rest

@@ -1,5 +1,5 @@
 -- Lists of lines: which lead where, and that no two have the same text.
-use Rattle.std.proofs.Common.{◌≡◌, ◌∙◌, ap, ℕ, ◌+◌, ◌<◌, Bool, true, false, List, [], ◌∷◌, ◌++◌, Option, Some, None, length, refl, sym, subst, append_assoc, arith}
+use Rattle.std.proofs.Common.{◌≡◌, ◌∙◌, ap, ℕ, ◌+◌, ◌<◌, Bool, true, false, List, [], ◌∷◌, ◌++◌, Option, Some, None, length, refl, sym, subst, append_assoc, arith, is_some}
 use Rattle.std.specs.List.{AllByRecursion}
 use Rattle.std.proofs.lemmas.List.{append-nil, length-append}
 use Rattle.hc_reply.specs.declared.reply.Line.TheVariants as last
@@ -11,7 +11,8 @@ use Rattle.hc_reply.specs.Items.{item_as, item_text}
 use Rattle.hc_reply.specs.Words.{opening_words}
 use Rattle.hc_reply.specs.Output.{behind_text}
 use Rattle.hc_reply.specs.Reading.{spelling}
-use Rattle.hc_reply.specs.Progress.{reply_of, replies_of, rows_of, step, is_some, may_close, is_whole, low_of, Leads, IsProgress, lines_text, text_of}
+use Rattle.hc_reply.specs.Progress.{reply_of, replies_of, rows_of, step, may_close, is_whole, low_of}
+use Rattle.hc_reply.proofs.ReadSoFar.{Leads, IsProgress, lines_text, text_of}
 use Rattle.hc_reply.proofs.ReplyLines.{fits_of}
 use Rattle.hc_reply.proofs.Steps.{step_text, step_is}
 use Rattle.hc_reply.proofs.Spelled.{item_text-is}

@@ -5,8 +5,10 @@ mod Integers
 mod Items
 mod Joined
 mod EachOpening
+mod Following
 mod Outputs
 mod Printable
+mod ReadSoFar
 mod ReplyLines
 mod Leading
 mod LinesFree

@@ -14,7 +14,8 @@ use Rattle.hc_reply.specs.Blobs.{IsBlob}
 use Rattle.hc_reply.specs.Numbers.{IsWithin}
 use Rattle.hc_reply.specs.Reading.{Fits, spelling, IsFitting}
 use Rattle.hc_reply.specs.Items.{behind_end, item_as, item_text, item_of, IsKey, key_end}
-use Rattle.hc_reply.specs.Stops.{Anything, NoDigit, NoQuote, IsPrefixFree}
+use Rattle.hc_reply.specs.Stops.{Anything, NoDigit, NoQuote}
+use Rattle.hc_reply.proofs.Following.{IsPrefixFree}
 use Rattle.hc_reply.proofs.Sequences.{both_free, ended_free, free_told}
 use Rattle.hc_reply.proofs.Digits.{number_free}
 use Rattle.hc_reply.proofs.Texts.{text_free}

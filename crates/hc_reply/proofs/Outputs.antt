@@ -13,9 +13,10 @@ use Rattle.hc_reply.specs.declared.fault.ReplyFault.TheVariants as fault
 use Rattle.hc_reply.specs.Items.{IsItem, item_text}
 use Rattle.hc_reply.specs.Output.{output_text}
 use Rattle.hc_reply.specs.Reading.{AreTranscripts, IsOutput, BeginsOutput, NoOutputGoesOn, IsFaultAt, IsReplyFault}
-use Rattle.hc_reply.specs.Progress.{start, finish, step, is_whole, low_of, turn_of, MayFollow, Leads, lines_text, fault_of}
+use Rattle.hc_reply.specs.Progress.{start, finish, step, is_whole, low_of, turn_of, fault_of}
 use Rattle.hc_reply.specs.Stops.{Anything, IsStuck, SameFirst, StopsIn}
 use Rattle.hc_reply.specs.Laws.{OutputsDiffer, OneSpelling, OneFault, OutputsHaveNoFault}
+use Rattle.hc_reply.proofs.ReadSoFar.{MayFollow, Leads, lines_text}
 use Rattle.hc_reply.proofs.Steps.{start_is, finished_text, finished}
 use Rattle.hc_reply.proofs.Leading.{leads_is, leads_on, leads_split, leads_fitting, completes, cut, item_long}
 use Rattle.hc_reply.proofs.Transcripts.{all_lines, whole_leads}

@@ -1,5 +1,5 @@
 -- A row, read value by value.
-use Rattle.std.proofs.Common.{◌≡◌, ◌≢◌, ◌∙◌, ap, ℕ, ◌<◌, ◌≤◌, ◌⊎◌, inl, inr, Bool, true, false, List, [], ◌∷◌, ◌++◌, length, refl, sym, subst, append_assoc, arith}
+use Rattle.std.proofs.Common.{◌≡◌, ◌≢◌, ◌∙◌, ap, ℕ, ◌<◌, ◌≤◌, ◌⊎◌, inl, inr, Bool, true, false, List, [], ◌∷◌, ◌++◌, length, flat_map, refl, sym, subst, append_assoc, arith}
 use Rattle.std.proofs.lemmas.Grind.{flat_map-append}
 use Rattle.std.proofs.lemmas.List.{append-nil, length-append}
 use Rattle.hc_value.specs.declared.value.Value.{Value}
@@ -7,9 +7,14 @@ use Rattle.hc_value.specs.declared.value.Value.TheVariants.{Null, Int, Text, Blo
 use Rattle.hc_reply.specs.declared.opening.Opening.TheVariants as opens
 use Rattle.hc_reply.specs.Output.{value_text, values_text}
 use Rattle.hc_reply.specs.Reading.{IsPrintable, Fits}
-use Rattle.hc_reply.specs.Rows.{row_end, barred, ArePrintable, separator, NoSeparator}
-use Rattle.hc_reply.specs.Stops.{EndsValue, EndsBehind, SameFirst, Anything, IsStuck, IsPrefixFree}
+use Rattle.hc_reply.specs.Rows.{row_end, ArePrintable, separator, NoSeparator}
+use Rattle.hc_reply.specs.Stops.{EndsValue, EndsBehind, SameFirst, Anything, IsStuck}
+use Rattle.hc_reply.proofs.Following.{IsPrefixFree, IsToldByFirst, same_ends}
 use Rattle.hc_reply.proofs.Values.{value_free}
+
+-- values of which each has a bar behind it
+abbrev pub before_bars : List Value → List ℕ
+before_bars values = flat_map (λ v. value_text v ++ 124 ∷ []) values
 
 abbrev IsRow : List Value → Type 0
 IsRow values = Fits opens.Row values
@@ -25,7 +30,7 @@ ends_behind (Int n) b r = (ends_value b r).0
 ends_behind (Text text) b r = (ends_value b r).1
 ends_behind (Blob bytes) b r = tt
 
-printable_more : (values : List Value) (v : Value) → ArePrintable values → IsPrintable v → ArePrintable (values ++ v ∷ [])
+pub printable_more : (values : List Value) (v : Value) → ArePrintable values → IsPrintable v → ArePrintable (values ++ v ∷ [])
 printable_more [] v are is = (is, tt)
 printable_more (w ∷ values) v are is = (are.0, printable_more values v are.1 is)
 
@@ -36,41 +41,38 @@ some_value (w ∷ values) v e = cc
 pub row_more : (values : List Value) (v : Value) → ArePrintable values → IsPrintable v → IsRow (values ++ v ∷ [])
 row_more values v are is = (some_value values v, printable_more values v are is)
 
-pub printable_with : (values : List Value) (v : Value) → ArePrintable values → IsPrintable v → ArePrintable (values ++ v ∷ [])
-printable_with = printable_more
-
 -- the text of a row, by its first value
 row_cons : (v w : Value) (values : List Value) → row_end (v ∷ w ∷ values) ≡ value_text v ++ 124 ∷ row_end (w ∷ values)
 row_cons v w values = append_assoc (value_text v) (124 ∷ values_text (w ∷ values)) (10 ∷ [])
 
 -- the text of a row, by its last one
-row_last : (values : List Value) (v : Value) → row_end (values ++ v ∷ []) ≡ barred values ++ (value_text v ++ 10 ∷ [])
+row_last : (values : List Value) (v : Value) → row_end (values ++ v ∷ []) ≡ before_bars values ++ (value_text v ++ 10 ∷ [])
 row_last [] v = refl
 row_last (w ∷ values) v =
     first values
     ∙ ap (λ (l : List ℕ). value_text w ++ 124 ∷ l) (row_last values v)
-    ∙ sym (append_assoc (value_text w) (124 ∷ []) (barred values ++ (value_text v ++ 10 ∷ [])))
-    ∙ sym (append_assoc (value_text w ++ 124 ∷ []) (barred values) (value_text v ++ 10 ∷ []))
+    ∙ sym (append_assoc (value_text w) (124 ∷ []) (before_bars values ++ (value_text v ++ 10 ∷ [])))
+    ∙ sym (append_assoc (value_text w ++ 124 ∷ []) (before_bars values) (value_text v ++ 10 ∷ []))
   where
     first : (us : List Value) → row_end (w ∷ (us ++ v ∷ [])) ≡ value_text w ++ 124 ∷ row_end (us ++ v ∷ [])
     first [] = row_cons w v []
     first (u ∷ us) = row_cons w u (us ++ v ∷ [])
 
-barred_more : (values : List Value) (v : Value) → barred (values ++ v ∷ []) ≡ barred values ++ (value_text v ++ 124 ∷ [])
-barred_more values v =
-    flat_map-append (λ w. value_text w ++ 124 ∷ []) values (v ∷ []) ∙ ap (λ (l : List ℕ). barred values ++ l) (append-nil (value_text v ++ 124 ∷ []))
+before_bars_more : (values : List Value) (v : Value) → before_bars (values ++ v ∷ []) ≡ before_bars values ++ (value_text v ++ 124 ∷ [])
+before_bars_more values v =
+    flat_map-append (λ w. value_text w ++ 124 ∷ []) values (v ∷ []) ∙ ap (λ (l : List ℕ). before_bars values ++ l) (append-nil (value_text v ++ 124 ∷ []))
 
-pub written_last : (bytes rest behind left : List ℕ) (values : List Value) (v : Value) → bytes ≡ barred values ++ rest → rest ≡ value_text v ++ behind → behind ≡ 10 ∷ left
+pub written_last : (bytes rest behind left : List ℕ) (values : List Value) (v : Value) → bytes ≡ before_bars values ++ rest → rest ≡ value_text v ++ behind → behind ≡ 10 ∷ left
     → bytes ≡ row_end (values ++ v ∷ []) ++ left
 written_last bytes rest behind left values v all there end =
-    all ∙ ap (λ (l : List ℕ). barred values ++ l) (there ∙ ap (λ (l : List ℕ). value_text v ++ l) end ∙ sym (append_assoc (value_text v) (10 ∷ []) left))
-    ∙ sym (append_assoc (barred values) (value_text v ++ 10 ∷ []) left) ∙ ap (λ (l : List ℕ). l ++ left) (sym (row_last values v))
+    all ∙ ap (λ (l : List ℕ). before_bars values ++ l) (there ∙ ap (λ (l : List ℕ). value_text v ++ l) end ∙ sym (append_assoc (value_text v) (10 ∷ []) left))
+    ∙ sym (append_assoc (before_bars values) (value_text v ++ 10 ∷ []) left) ∙ ap (λ (l : List ℕ). l ++ left) (sym (row_last values v))
 
-pub written_more : (bytes rest behind left : List ℕ) (values : List Value) (v : Value) → bytes ≡ barred values ++ rest → rest ≡ value_text v ++ behind → behind ≡ 124 ∷ left
-    → bytes ≡ barred (values ++ v ∷ []) ++ left
+pub written_more : (bytes rest behind left : List ℕ) (values : List Value) (v : Value) → bytes ≡ before_bars values ++ rest → rest ≡ value_text v ++ behind → behind ≡ 124 ∷ left
+    → bytes ≡ before_bars (values ++ v ∷ []) ++ left
 written_more bytes rest behind left values v all there end =
-    all ∙ ap (λ (l : List ℕ). barred values ++ l) (there ∙ ap (λ (l : List ℕ). value_text v ++ l) end ∙ sym (append_assoc (value_text v) (124 ∷ []) left))
-    ∙ sym (append_assoc (barred values) (value_text v ++ 124 ∷ []) left) ∙ ap (λ (l : List ℕ). l ++ left) (sym (barred_more values v))
+    all ∙ ap (λ (l : List ℕ). before_bars values ++ l) (there ∙ ap (λ (l : List ℕ). value_text v ++ l) end ∙ sym (append_assoc (value_text v) (124 ∷ []) left))
+    ∙ sym (append_assoc (before_bars values) (value_text v ++ 124 ∷ []) left) ∙ ap (λ (l : List ℕ). l ++ left) (sym (before_bars_more values v))
 
 -- ---- what goes on with the values so far
 
@@ -87,21 +89,21 @@ first_of (v ∷ []) behind is = (v, true, behind, is.1.0, append_assoc (value_te
 first_of (v ∷ w ∷ values) behind is =
     (v, false, row_end (w ∷ values) ++ behind, is.1.0, ap (λ (l : List ℕ). l ++ behind) (row_cons v w values) ∙ append_assoc (value_text v) (124 ∷ row_end (w ∷ values)) behind)
 
-barred_cons : (x : Value) (values : List Value) (y : List ℕ) → barred (x ∷ values) ++ y ≡ value_text x ++ 124 ∷ (barred values ++ y)
-barred_cons x values y = append_assoc (value_text x ++ 124 ∷ []) (barred values) y ∙ append_assoc (value_text x) (124 ∷ []) (barred values ++ y)
+before_bars_cons : (x : Value) (values : List Value) (y : List ℕ) → before_bars (x ∷ values) ++ y ≡ value_text x ++ 124 ∷ (before_bars values ++ y)
+before_bars_cons x values y = append_assoc (value_text x ++ 124 ∷ []) (before_bars values) y ∙ append_assoc (value_text x) (124 ∷ []) (before_bars values ++ y)
 
-pub rows_behind : (values w : List Value) (behind y : List ℕ) → ArePrintable values → IsRow w → row_end w ++ behind ≡ barred values ++ y → Behind values w behind y
+pub rows_behind : (values w : List Value) (behind y : List ℕ) → ArePrintable values → IsRow w → row_end w ++ behind ≡ before_bars values ++ y → Behind values w behind y
 rows_behind [] w behind y are is e = (w, refl, is, e)
 rows_behind (x ∷ values) [] behind y are is e = absurd (is.0 refl)
 rows_behind (x ∷ values) (v ∷ []) behind y are is e =
-    let same : value_text v ++ 10 ∷ behind ≡ value_text x ++ 124 ∷ (barred values ++ y) = sym (append_assoc (value_text v) (10 ∷ []) behind) ∙ e ∙ barred_cons x values y in
-    let both = value_free v x (10 ∷ behind) (124 ∷ (barred values ++ y)) is.1.0 are.0 (ends_behind v true behind) (ends_behind x false (barred values ++ y)) same in
+    let same : value_text v ++ 10 ∷ behind ≡ value_text x ++ 124 ∷ (before_bars values ++ y) = sym (append_assoc (value_text v) (10 ∷ []) behind) ∙ e ∙ before_bars_cons x values y in
+    let both = value_free v x (10 ∷ behind) (124 ∷ (before_bars values ++ y)) is.1.0 are.0 (ends_behind v true behind) (ends_behind x false (before_bars values ++ y)) same in
     absurd (let bad : ◌≡◌ {A = ℕ} 10 124 = (let h = both.1 in cc) in omega (arith, bad))
 rows_behind (x ∷ values) (v ∷ w ∷ ws) behind y are is e =
-    let same : value_text v ++ 124 ∷ (row_end (w ∷ ws) ++ behind) ≡ value_text x ++ 124 ∷ (barred values ++ y) =
-    sym (append_assoc (value_text v) (124 ∷ row_end (w ∷ ws)) behind) ∙ ap (λ (l : List ℕ). l ++ behind) (sym (row_cons v w ws)) ∙ e ∙ barred_cons x values y in
-    let both = value_free v x (124 ∷ (row_end (w ∷ ws) ++ behind)) (124 ∷ (barred values ++ y)) is.1.0 are.0 (ends_behind v false (row_end (w ∷ ws) ++ behind)) (ends_behind x false (barred values ++ y)) same in
-    let rest : row_end (w ∷ ws) ++ behind ≡ barred values ++ y = (let h = both.1 in cc) in
+    let same : value_text v ++ 124 ∷ (row_end (w ∷ ws) ++ behind) ≡ value_text x ++ 124 ∷ (before_bars values ++ y) =
+    sym (append_assoc (value_text v) (124 ∷ row_end (w ∷ ws)) behind) ∙ ap (λ (l : List ℕ). l ++ behind) (sym (row_cons v w ws)) ∙ e ∙ before_bars_cons x values y in
+    let both = value_free v x (124 ∷ (row_end (w ∷ ws) ++ behind)) (124 ∷ (before_bars values ++ y)) is.1.0 are.0 (ends_behind v false (row_end (w ∷ ws) ++ behind)) (ends_behind x false (before_bars values ++ y)) same in
+    let rest : row_end (w ∷ ws) ++ behind ≡ before_bars values ++ y = (let h = both.1 in cc) in
     let more = rows_behind values (w ∷ ws) behind y are.1 ((λ bad. cc), is.1.1) rest in
     (more.0, (λ i. both.0 i ∷ more.1 i), more.2, more.3)
 
@@ -110,53 +112,47 @@ rows_behind (x ∷ values) (v ∷ w ∷ ws) behind y are is e =
 abbrev Stuck : List ℕ → List ℕ → Type 0
 Stuck bytes rest = IsStuck Anything IsRow row_end bytes rest
 
-pub stuck_in_value : (values : List Value) (bytes rest stop : List ℕ) → ArePrintable values → bytes ≡ barred values ++ rest → IsStuck EndsValue IsPrintable value_text rest stop → Stuck bytes stop
+pub stuck_in_value : (values : List Value) (bytes rest stop : List ℕ) → ArePrintable values → bytes ≡ before_bars values ++ rest → IsStuck EndsValue IsPrintable value_text rest stop → Stuck bytes stop
 stuck_in_value values bytes rest stop are all s = record {
-  before = barred values ++ s.before;
-  splits = all ∙ ap (λ (l : List ℕ). barred values ++ l) s.splits ∙ sym (append_assoc (barred values) s.before stop);
+  before = before_bars values ++ s.before;
+  splits = all ∙ ap (λ (l : List ℕ). before_bars values ++ l) s.splits ∙ sym (append_assoc (before_bars values) s.before stop);
   value = values ++ s.value ∷ [];
   more = s.more ++ 10 ∷ [];
   has = row_more values s.value are s.has;
-  begins = row_last values s.value ∙ ap (λ (l : List ℕ). barred values ++ (l ++ 10 ∷ [])) s.begins
-      ∙ ap (λ (l : List ℕ). barred values ++ l) (append_assoc s.before s.more (10 ∷ [])) ∙ sym (append_assoc (barred values) s.before (s.more ++ 10 ∷ []));
+  begins = row_last values s.value ∙ ap (λ (l : List ℕ). before_bars values ++ (l ++ 10 ∷ [])) s.begins
+      ∙ ap (λ (l : List ℕ). before_bars values ++ l) (append_assoc s.before s.more (10 ∷ [])) ∙ sym (append_assoc (before_bars values) s.before (s.more ++ 10 ∷ []));
   none = λ w behind other is any same e.
-      let b = rows_behind values w behind (s.before ++ other) are is (e ∙ append_assoc (barred values) s.before other) in
+      let b = rows_behind values w behind (s.before ++ other) are is (e ∙ append_assoc (before_bars values) s.before other) in
       let f = first_of b.0 behind b.2 in
       s.none f.0 (separator f.1 ∷ f.2) other f.3 (ends_value f.1 f.2) same (sym f.4 ∙ b.3);
 }
 
-no_separator_there : (r o : List ℕ) → SameFirst r o → NoSeparator r → NoSeparator o
-no_separator_there [] [] same none = tt
-no_separator_there [] (b ∷ o) same none = absurd same
-no_separator_there (a ∷ r) [] same none = absurd same
-no_separator_there (a ∷ r) (b ∷ o) same none = subst (λ (k : ℕ). (k ≢ 10) × (k ≢ 124)) same none
+no_separator_there : (rest other : List ℕ) → SameFirst rest other → NoSeparator rest → NoSeparator other
+no_separator_there = same_ends NoSeparator (λ b rest other none. none)
 
-ends_there : (v : Value) (r o : List ℕ) → SameFirst r o → EndsBehind v r → EndsBehind v o
-ends_there v [] [] same ends = ends
-ends_there v [] (b ∷ o) same ends = absurd same
-ends_there v (a ∷ r) [] same ends = absurd same
-ends_there Null (a ∷ r) (b ∷ o) same ends = tt
-ends_there (Int n) (a ∷ r) (b ∷ o) same ends = subst (λ (k : ℕ). (k < 48) ⊎ (58 ≤ k)) same ends
-ends_there (Text text) (a ∷ r) (b ∷ o) same ends = subst (λ (k : ℕ). k ≢ 39) same ends
-ends_there (Blob bytes) (a ∷ r) (b ∷ o) same ends = tt
+ends_told : (v : Value) → IsToldByFirst (EndsBehind v)
+ends_told Null b rest other ends = tt
+ends_told (Int n) b rest other ends = ends
+ends_told (Text text) b rest other ends = ends
+ends_told (Blob bytes) b rest other ends = tt
 
 separates : (b : Bool) (more other : List ℕ) → NoSeparator other → separator b ∷ more ≡ other → ⊥
 separates true more other none e = (subst NoSeparator (sym e) none).0 refl
 separates false more other none e = (subst NoSeparator (sym e) none).1 refl
 
-pub stuck_at_separator : (values : List Value) (v : Value) (bytes rest stop : List ℕ) → ArePrintable values → IsPrintable v → bytes ≡ barred values ++ rest → rest ≡ value_text v ++ stop
+pub stuck_at_separator : (values : List Value) (v : Value) (bytes rest stop : List ℕ) → ArePrintable values → IsPrintable v → bytes ≡ before_bars values ++ rest → rest ≡ value_text v ++ stop
     → EndsBehind v stop → NoSeparator stop → Stuck bytes stop
 stuck_at_separator values v bytes rest stop are is all there ends none = record {
-  before = barred values ++ value_text v;
-  splits = all ∙ ap (λ (l : List ℕ). barred values ++ l) there ∙ sym (append_assoc (barred values) (value_text v) stop);
+  before = before_bars values ++ value_text v;
+  splits = all ∙ ap (λ (l : List ℕ). before_bars values ++ l) there ∙ sym (append_assoc (before_bars values) (value_text v) stop);
   value = values ++ v ∷ [];
   more = 10 ∷ [];
   has = row_more values v are is;
-  begins = row_last values v ∙ sym (append_assoc (barred values) (value_text v) (10 ∷ []));
+  begins = row_last values v ∙ sym (append_assoc (before_bars values) (value_text v) (10 ∷ []));
   none = λ w behind other fits any same e.
-      let b = rows_behind values w behind (value_text v ++ other) are fits (e ∙ append_assoc (barred values) (value_text v) other) in
+      let b = rows_behind values w behind (value_text v ++ other) are fits (e ∙ append_assoc (before_bars values) (value_text v) other) in
       let f = first_of b.0 behind b.2 in
-      let both = value_free f.0 v (separator f.1 ∷ f.2) other f.3 is (ends_behind f.0 f.1 f.2) (ends_there v stop other same ends) (sym f.4 ∙ b.3) in
+      let both = value_free f.0 v (separator f.1 ∷ f.2) other f.3 is (ends_behind f.0 f.1 f.2) (same_ends (EndsBehind v) (ends_told v) stop other same ends) (sym f.4 ∙ b.3) in
       separates f.1 f.2 other (no_separator_there stop other same none) both.1;
 }
 

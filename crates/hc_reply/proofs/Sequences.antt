@@ -3,7 +3,8 @@ use Rattle.std.proofs.Common.{◌≡◌, ◌∙◌, ap, ℕ, List, [], ◌∷◌
 use Rattle.std.proofs.lemmas.List.{append_cancel_left}
 use Rattle.hc_reply.specs.declared.stop.Stop.{Stop}
 use Rattle.hc_reply.specs.declared.stop.Stop.TheVariants.{At, NoMemory}
-use Rattle.hc_reply.specs.Stops.{StopsIn, SameFirst, Anything, IsStuck, IsPrefixFree, IsWord, the_word}
+use Rattle.hc_reply.specs.Stops.{StopsIn, SameFirst, Anything, IsStuck, IsWord, the_word}
+use Rattle.hc_reply.proofs.Following.{IsPrefixFree, same_behind}
 
 -- `follows`: where the second part stands, the first may end. `heads`: what may follow the first is told by its first byte.
 module _ {V W : Type 0} (Ends : List ℕ → Type 0) (Is : V → Type 0) (text : V → List ℕ) (Is2 : W → Type 0) (text2 : W → List ℕ)
@@ -41,10 +42,6 @@ module _ {V W : Type 0} (Ends : List ℕ → Type 0) (Is : V → Type 0) (text :
         (sym (append_assoc (text p.0) (text2 p.1) behind) ∙ e ∙ append_assoc (text v) s.before other) in
         s.none p.1 behind other is2.1 tt same split.1;
   }
-    where
-      same_behind : (front rest other : List ℕ) → SameFirst rest other → SameFirst (front ++ rest) (front ++ other)
-      same_behind [] rest other h = h
-      same_behind (x ∷ front) rest other h = refl
 
   pub both_free : IsPrefixFree Ends Is text → IsPrefixFree Anything Is2 text2 → IsPrefixFree Anything Both both
   both_free free free2 p q r s isp isq any more e =

@@ -1,5 +1,6 @@
 -- One line more: what was read stays right, and its text is longer by the line's.
-use Rattle.std.proofs.Common.{slice_index_or, ◌⊎◌, inl, inr, ◌≡◌, ◌≢◌, ◌∙◌, ap, ℕ, ◌+◌, ◌<◌, ◌≤◌, Bool, true, false, List, [], ◌∷◌, ◌++◌, Option, Some, None, length, refl, sym, subst, append_assoc, arith, flat_map}
+use Rattle.std.proofs.Common.{slice_index_or, ◌⊎◌, inl, inr, ◌≡◌, ◌≢◌, ◌∙◌, ap, ℕ, ◌+◌, ◌<◌, ◌≤◌, Bool, true, false, List, [], ◌∷◌, ◌++◌, Option, Some, None, length, refl, sym, subst, append_assoc, arith, flat_map, is_some}
+use Rattle.std.specs.Cmp.{second_so}
 use Rattle.std.specs.List.{AllByRecursion}
 use Rattle.std.specs.List.Sorted.{IsStrictlyIncreasing}
 use Rattle.std.proofs.lemmas.Grind.{flat_map-append}
@@ -18,7 +19,8 @@ use Rattle.hc_reply.specs.declared.opening.Opening.TheVariants as opens
 use Rattle.hc_reply.specs.Items.{item_text, FitsFrom}
 use Rattle.hc_reply.specs.Output.{last_as, ending_as, line_text, last_text, ending_text, row_text, reply_text, transcript_text, output_text}
 use Rattle.hc_reply.specs.Reading.{IsRow, IsReply, IsTranscript, IsEndingIf, AreTranscripts, spelling}
-use Rattle.hc_reply.specs.Progress.{start, reply_of, closed, open_rows, ended, with_open, replies_of, rows_of, finish, step, is_some, and_some, is_empty, may_close, is_whole, next_low, low_of, turn_of, if_true, MayFollow, IsOpenLast, conns, IsOpenConn, IsProgress, conn_text_if, text_of}
+use Rattle.hc_reply.specs.Progress.{start, reply_of, closed, open_rows, ended, with_open, replies_of, rows_of, finish, step, and_some, is_empty, may_close, is_whole, next_low, low_of, turn_of}
+use Rattle.hc_reply.proofs.ReadSoFar.{MayFollow, IsOpenLast, conns, IsOpenConn, IsProgress, conn_text_if, text_of}
 use Rattle.hc_reply.proofs.ReplyLines.{fits_of, last_stands, ending_stands}
 
 flat_last : {X : Type 0} (f : X → List ℕ) (xs : List X) (x : X) → flat_map f (xs ++ x ∷ []) ≡ flat_map f xs ++ f x
@@ -76,13 +78,9 @@ finished_text p is whole = by p.conn is.opened whole
         ∙ sym (append_assoc all conn replies) ∙ sym (append-nil ((all ++ conn) ++ replies))
         ∙ ap (λ (rows : List Row). ((all ++ conn) ++ replies) ++ flat_map row_text rows) (sym (no_row_left (replies_of p) (rows_of p) whole).1)
 
-both_true : (a b : Bool) → if_true a b ≡ true → (a ≡ true) × (b ≡ true)
-both_true true b h = (refl, h)
-both_true false b h = absurd (let bad = h in cc)
-
 pub step_text : (p : Progress) (line : Item) → IsProgress p → MayFollow p line → text_of (step p line) ≡ text_of p ++ item_text line
 step_text p (item.Conn n) is may =
-    append-nil _ ∙ append-nil _ ∙ ap (λ (l : List ℕ). l ++ line_text opens.Conn n) (finished_text p is (both_true _ _ may.0).1)
+    append-nil _ ∙ append-nil _ ∙ ap (λ (l : List ℕ). l ++ line_text opens.Conn n) (finished_text p is (second_so _ _ may.0))
 step_text p (item.Row row) is may = with_row p row
 step_text p (item.Last line) is may = with_last p line
 step_text p (item.Ending line) is may =
@@ -161,7 +159,7 @@ conn_opened p n (Some c) opened low =
 pub step_is : (p : Progress) (line : Item) → IsProgress p → MayFollow p line → IsProgress (step p line)
 step_is p (item.Conn n) is may = record {
   opened = (may.1.1, conn_opened p n p.conn is.opened may.1.0);
-  transcripts = finished_are p is (both_true _ _ may.0).1;
+  transcripts = finished_are p is (second_so _ _ may.0);
   replies = tt;
   rows = tt;
   last = tt;

@@ -4,13 +4,14 @@ use Rattle.std.specs.Str.{IsUtf8}
 use Rattle.std.proofs.lemmas.Bool.{cases_eq, ne_eqb}
 use Rattle.std.proofs.lemmas.Str.{IsUtf8-nil}
 use Rattle.std.proofs.lemmas.Grind.{flat_map-append}
-use Rattle.std.proofs.lemmas.List.{append-nil}
+use Rattle.std.proofs.lemmas.List.{append-nil, length-append, nil_from_length}
 use Rattle.hc_lex.specs.Quotes.{doubled}
 use Rattle.hc_value.specs.declared.expected.Expected.{Expected}
 use Rattle.hc_value.specs.declared.expected.Expected.TheVariants.{Any, Character, Following}
 use Rattle.hc_value.specs.Expected.{Follows, Completes, IsOpen, IsNext, IsRefused, GoesOn}
 use Rattle.hc_reply.specs.Output.{quoted}
-use Rattle.hc_reply.specs.Stops.{NoQuote, SameFirst, IsStuck, IsPrefixFree}
+use Rattle.hc_reply.specs.Stops.{NoQuote, SameFirst, IsStuck}
+use Rattle.hc_reply.proofs.Following.{IsPrefixFree, no_quote_there, same_byte}
 
 -- a byte within quotes
 abbrev pub twice : ℕ → List ℕ
@@ -24,6 +25,32 @@ twice_other b other = ap (λ k. if k then b ∷ b ∷ [] else b ∷ []) (ne_eqb 
 
 pub doubled_more : (out : List ℕ) (b : ℕ) → doubled 39 (out ++ b ∷ []) ≡ doubled 39 out ++ twice b
 doubled_more out b = flat_map-append twice out (b ∷ []) ∙ ap (λ (l : List ℕ). doubled 39 out ++ l) (append-nil (twice b))
+
+-- no byte within quotes begins another
+twice_free : (x o : ℕ) (r s : List ℕ) → twice x ++ r ≡ twice o ++ s → (x ≡ o) × (r ≡ s)
+twice_free x o r s e = by (cases_eq x 39) (cases_eq o 39)
+  where
+    put : (l m : List ℕ) → twice x ≡ l → twice o ≡ m → l ++ r ≡ m ++ s
+    put l m one two = ap (λ (k : List ℕ). k ++ r) (sym one) ∙ e ∙ ap (λ (k : List ℕ). k ++ s) two
+
+    by : (x ≡ 39) ⊎ (x ≡ 39 → ⊥) → (o ≡ 39) ⊎ (o ≡ 39 → ⊥) → (x ≡ o) × (r ≡ s)
+    by (inl is) (inl same) =
+        let two : 39 ∷ 39 ∷ r ≡ 39 ∷ 39 ∷ s = put (39 ∷ 39 ∷ []) (39 ∷ 39 ∷ []) (twice_quote x is) (twice_quote o same) in
+        let rest : r ≡ s = cc in
+        (is ∙ sym same, rest)
+    by (inl is) (inr other) =
+        let mixed : 39 ∷ 39 ∷ r ≡ o ∷ s = put (39 ∷ 39 ∷ []) (o ∷ []) (twice_quote x is) (twice_other o other) in
+        let bad : o ≡ 39 = cc in
+        absurd (other bad)
+    by (inr other) (inl is) =
+        let mixed : x ∷ r ≡ 39 ∷ 39 ∷ s = put (x ∷ []) (39 ∷ 39 ∷ []) (twice_other x other) (twice_quote o is) in
+        let bad : x ≡ 39 = cc in
+        absurd (other bad)
+    by (inr x_other) (inr o_other) =
+        let one : x ∷ r ≡ o ∷ s = put (x ∷ []) (o ∷ []) (twice_other x x_other) (twice_other o o_other) in
+        let first : x ≡ o = cc in
+        let rest : r ≡ s = cc in
+        (first, rest)
 
 abbrev Behind : List ℕ → List ℕ → List ℕ → List ℕ → Type 0
 Behind out v behind y = (d : List ℕ) × (v ≡ out ++ d) × (doubled 39 d ++ 39 ∷ behind ≡ y)
@@ -45,36 +72,10 @@ goes_on_with (o ∷ out) [] behind y ends e = by (cases_eq o 39)
         let one : 39 ∷ behind ≡ o ∷ (doubled 39 out ++ y) = all ∙ ap (λ (l : List ℕ). l ++ (doubled 39 out ++ y)) (twice_other o other) in
         let is : o ≡ 39 = cc in
         absurd (other is)
-goes_on_with (o ∷ out) (x ∷ v) behind y ends e = by (λ rest. goes_on_with out v behind y ends rest) (cases_eq o 39) (cases_eq x 39)
-  where
-    all : twice x ++ (doubled 39 v ++ 39 ∷ behind) ≡ twice o ++ (doubled 39 out ++ y)
-    all = sym (append_assoc (twice x) (doubled 39 v) (39 ∷ behind)) ∙ e ∙ append_assoc (twice o) (doubled 39 out) y
-
-    further : (doubled 39 v ++ 39 ∷ behind ≡ doubled 39 out ++ y → Behind out v behind y) → x ≡ o → doubled 39 v ++ 39 ∷ behind ≡ doubled 39 out ++ y → Behind (o ∷ out) (x ∷ v) behind y
-    further go same rest = let more = go rest in (more.0, (λ i. same i ∷ more.1 i), more.2)
-
-    by : (doubled 39 v ++ 39 ∷ behind ≡ doubled 39 out ++ y → Behind out v behind y) → (o ≡ 39) ⊎ (o ≡ 39 → ⊥) → (x ≡ 39) ⊎ (x ≡ 39 → ⊥) → Behind (o ∷ out) (x ∷ v) behind y
-    by go (inl is) (inl same) =
-        let two : 39 ∷ 39 ∷ (doubled 39 v ++ 39 ∷ behind) ≡ 39 ∷ 39 ∷ (doubled 39 out ++ y) =
-        ap (λ (l : List ℕ). l ++ (doubled 39 v ++ 39 ∷ behind)) (sym (twice_quote x same)) ∙ all ∙ ap (λ (l : List ℕ). l ++ (doubled 39 out ++ y)) (twice_quote o is) in
-        let rest : doubled 39 v ++ 39 ∷ behind ≡ doubled 39 out ++ y = cc in
-        further go (same ∙ sym is) rest
-    by go (inl is) (inr other) =
-        let mixed : x ∷ (doubled 39 v ++ 39 ∷ behind) ≡ 39 ∷ 39 ∷ (doubled 39 out ++ y) =
-        ap (λ (l : List ℕ). l ++ (doubled 39 v ++ 39 ∷ behind)) (sym (twice_other x other)) ∙ all ∙ ap (λ (l : List ℕ). l ++ (doubled 39 out ++ y)) (twice_quote o is) in
-        let bad : x ≡ 39 = cc in
-        absurd (other bad)
-    by go (inr other) (inl same) =
-        let mixed : 39 ∷ 39 ∷ (doubled 39 v ++ 39 ∷ behind) ≡ o ∷ (doubled 39 out ++ y) =
-        ap (λ (l : List ℕ). l ++ (doubled 39 v ++ 39 ∷ behind)) (sym (twice_quote x same)) ∙ all ∙ ap (λ (l : List ℕ). l ++ (doubled 39 out ++ y)) (twice_other o other) in
-        let bad : o ≡ 39 = cc in
-        absurd (other bad)
-    by go (inr o_other) (inr x_other) =
-        let one : x ∷ (doubled 39 v ++ 39 ∷ behind) ≡ o ∷ (doubled 39 out ++ y) =
-        ap (λ (l : List ℕ). l ++ (doubled 39 v ++ 39 ∷ behind)) (sym (twice_other x x_other)) ∙ all ∙ ap (λ (l : List ℕ). l ++ (doubled 39 out ++ y)) (twice_other o o_other) in
-        let same : x ≡ o = cc in
-        let rest : doubled 39 v ++ 39 ∷ behind ≡ doubled 39 out ++ y = cc in
-        further go same rest
+goes_on_with (o ∷ out) (x ∷ v) behind y ends e =
+    let both = twice_free x o (doubled 39 v ++ 39 ∷ behind) (doubled 39 out ++ y) (sym (append_assoc (twice x) (doubled 39 v) (39 ∷ behind)) ∙ e ∙ append_assoc (twice o) (doubled 39 out) y) in
+    let more = goes_on_with out v behind y ends both.1 in
+    (more.0, (λ i. both.0 i ∷ more.1 i), more.2)
 
 -- what a text begins with behind what was read: its quote, or a byte of it
 begins_behind : (P : Type 0) (d behind : List ℕ) (b : ℕ) (o : List ℕ) → doubled 39 d ++ 39 ∷ behind ≡ b ∷ o → (d ≡ [] → 39 ≡ b → behind ≡ o → P) → ((x : List ℕ) → d ≡ b ∷ x → P) → P
@@ -101,33 +102,13 @@ pub text_free : IsPrefixFree NoQuote IsUtf8 quoted
 text_free v w r s isv isw nr ns e =
     let inner : doubled 39 v ++ 39 ∷ r ≡ doubled 39 w ++ 39 ∷ s = let h : 39 ∷ (doubled 39 v ++ 39 ∷ r) ≡ 39 ∷ (doubled 39 w ++ 39 ∷ s) = sym (quoted_behind v r) ∙ e ∙ quoted_behind w s in cc in
     let more = goes_on_with w v r (39 ∷ s) nr inner in
-    by more.0 more.1 more.2
-  where
-    by : (d : List ℕ) → v ≡ w ++ d → doubled 39 d ++ 39 ∷ r ≡ 39 ∷ s → (v ≡ w) × (r ≡ s)
-    by [] is same = let rest : r ≡ s = cc in (is ∙ append-nil w, rest)
-    by (x ∷ d) is same = begins_twice (cases_eq x 39)
-      where
-        all : twice x ++ (doubled 39 d ++ 39 ∷ r) ≡ 39 ∷ s
-        all = sym (append_assoc (twice x) (doubled 39 d) (39 ∷ r)) ∙ same
-
-        begins_twice : (x ≡ 39) ⊎ (x ≡ 39 → ⊥) → (v ≡ w) × (r ≡ s)
-        begins_twice (inl quote) =
-            let two : 39 ∷ 39 ∷ (doubled 39 d ++ 39 ∷ r) ≡ 39 ∷ s = ap (λ (l : List ℕ). l ++ (doubled 39 d ++ 39 ∷ r)) (sym (twice_quote x quote)) ∙ all in
-            let bad : 39 ∷ (doubled 39 d ++ 39 ∷ r) ≡ s = cc in
-            absurd (subst NoQuote (sym bad) ns refl)
-        begins_twice (inr other) =
-            let one : x ∷ (doubled 39 d ++ 39 ∷ r) ≡ 39 ∷ s = ap (λ (l : List ℕ). l ++ (doubled 39 d ++ 39 ∷ r)) (sym (twice_other x other)) ∙ all in
-            let bad : x ≡ 39 = cc in
-            absurd (other bad)
+    let less = goes_on_with v w s (39 ∷ r) ns (sym inner) in
+    let none : more.0 ≡ [] = nil_from_length more.0 (omega (arith, ap length more.1, length-append w more.0, ap length less.1, length-append v less.0)) in
+    let rest : r ≡ s = (let h : 39 ∷ r ≡ 39 ∷ s = ap (λ (d : List ℕ). doubled 39 d ++ 39 ∷ r) (sym none) ∙ more.2 in cc) in
+    (more.1 ∙ ap (λ (d : List ℕ). w ++ d) none ∙ append-nil w, rest)
 
 abbrev Stuck : List ℕ → List ℕ → Type 0
 Stuck bytes rest = IsStuck NoQuote IsUtf8 quoted bytes rest
-
-pub no_quote_there : (rest other : List ℕ) → SameFirst rest other → NoQuote rest → NoQuote other
-no_quote_there [] [] same none = tt
-no_quote_there [] (o ∷ other) same none = absurd same
-no_quote_there (r ∷ rest) [] same none = absurd same
-no_quote_there (r ∷ rest) (o ∷ other) same none = subst (λ (b : ℕ). NoQuote (b ∷ other)) same none
 
 pub stuck_without_quote : (bytes : List ℕ) → NoQuote bytes → Stuck bytes bytes
 stuck_without_quote bytes none = record {
@@ -169,8 +150,10 @@ texts_behind out v behind other ends e =
     let inner : doubled 39 v ++ 39 ∷ behind ≡ doubled 39 out ++ other = let h : 39 ∷ (doubled 39 v ++ 39 ∷ behind) ≡ 39 ∷ (doubled 39 out ++ other) = sym (quoted_behind v behind) ∙ e in cc in
     goes_on_with out v behind other ends inner
 
-pub stuck_at_end : (out bytes rest : List ℕ) (e : Expected) → IsOpen e → GoesOn Character out e → bytes ≡ (39 ∷ doubled 39 out) ++ rest → rest ≡ [] → Stuck bytes rest
-stuck_at_end out bytes rest e alive goes all nothing =
+-- a stop behind what was read, where no text goes on
+stuck_there : (out bytes rest : List ℕ) (e : Expected) → IsOpen e → GoesOn Character out e → bytes ≡ (39 ∷ doubled 39 out) ++ rest
+    → ((v behind other : List ℕ) → IsUtf8 v → SameFirst rest other → Behind out v behind other → ⊥) → Stuck bytes rest
+stuck_there out bytes rest e alive goes all none =
     let some = begun out e alive goes in
     record {
       before = 39 ∷ doubled 39 out;
@@ -179,46 +162,27 @@ stuck_at_end out bytes rest e alive goes all nothing =
       more = some.1;
       has = some.2;
       begins = some.3;
-      none = λ v behind other is ends same h.
-          let more = texts_behind out v behind other ends h in
-          nothing_there more.0 behind other (subst (λ (l : List ℕ). SameFirst l other) nothing same) more.2;
+      none = λ v behind other is ends same h. none v behind other is same (texts_behind out v behind other ends h);
     }
+
+pub stuck_at_end : (out bytes rest : List ℕ) (e : Expected) → IsOpen e → GoesOn Character out e → bytes ≡ (39 ∷ doubled 39 out) ++ rest → rest ≡ [] → Stuck bytes rest
+stuck_at_end out bytes rest e alive goes all nothing =
+    stuck_there out bytes rest e alive goes all (λ v behind other is same more.
+    nothing_there more.0 behind other (subst (λ (l : List ℕ). SameFirst l other) nothing same) more.2)
   where
     nothing_there : (d behind other : List ℕ) → SameFirst [] other → doubled 39 d ++ 39 ∷ behind ≡ other → ⊥
     nothing_there d behind (o ∷ other) same h = same
-    nothing_there [] behind [] same h = cc
-    nothing_there (x ∷ d) behind [] same h = by (cases_eq x 39)
-      where
-        all_of : twice x ++ (doubled 39 d ++ 39 ∷ behind) ≡ []
-        all_of = sym (append_assoc (twice x) (doubled 39 d) (39 ∷ behind)) ∙ h
-
-        by : (x ≡ 39) ⊎ (x ≡ 39 → ⊥) → ⊥
-        by (inl is) = let bad : 39 ∷ 39 ∷ (doubled 39 d ++ 39 ∷ behind) ≡ [] = ap (λ (l : List ℕ). l ++ (doubled 39 d ++ 39 ∷ behind)) (sym (twice_quote x is)) ∙ all_of in cc
-        by (inr other) = let bad : x ∷ (doubled 39 d ++ 39 ∷ behind) ≡ [] = ap (λ (l : List ℕ). l ++ (doubled 39 d ++ 39 ∷ behind)) (sym (twice_other x other)) ∙ all_of in cc
+    nothing_there d behind [] same h = omega (arith, ap length h, length-append (doubled 39 d) (39 ∷ behind))
 
 -- a byte that may not come
 pub stuck_at_byte : (out bytes rest after : List ℕ) (b : ℕ) (e : Expected) → IsOpen e → GoesOn Character out e → bytes ≡ (39 ∷ doubled 39 out) ++ rest → rest ≡ b ∷ after
     → IsRefused e b → (b < 128 → Completes e [] → ⊥) → Stuck bytes rest
 stuck_at_byte out bytes rest after b e alive goes all first refused closed =
-    let some = begun out e alive goes in
-    record {
-      before = 39 ∷ doubled 39 out;
-      splits = all;
-      value = some.0;
-      more = some.1;
-      has = some.2;
-      begins = some.3;
-      none = λ v behind other is ends same h.
-          let more = texts_behind out v behind other ends h in
-          let o = there other (subst (λ (l : List ℕ). SameFirst l other) first same) in
-          begins_behind ⊥ more.0 behind b o.0 (more.2 ∙ o.1)
-          (λ nothing quote rest. closed (omega (arith, quote)) ((goes []).1 (subst IsUtf8 (more.1 ∙ ap (λ (l : List ℕ). out ++ l) nothing) is)))
-          (λ x byte. refused x ((goes (b ∷ x)).1 (subst IsUtf8 (more.1 ∙ ap (λ (l : List ℕ). out ++ l) byte) is)));
-    }
-  where
-    there : (other : List ℕ) → SameFirst (b ∷ after) other → (o : List ℕ) × (other ≡ b ∷ o)
-    there [] same = absurd same
-    there (c ∷ o) same = (o, ap (λ (k : ℕ). k ∷ o) (sym same))
+    stuck_there out bytes rest e alive goes all (λ v behind other is same more.
+    let o = same_byte b after other (subst (λ (l : List ℕ). SameFirst l other) first same) in
+    begins_behind ⊥ more.0 behind b o.0 (more.2 ∙ o.1)
+    (λ nothing quote rest. closed (omega (arith, quote)) ((goes []).1 (subst IsUtf8 (more.1 ∙ ap (λ (l : List ℕ). out ++ l) nothing) is)))
+    (λ x byte. refused x ((goes (b ∷ x)).1 (subst IsUtf8 (more.1 ∙ ap (λ (l : List ℕ). out ++ l) byte) is))))
 
 -- ---- one byte more, and the end
 
@@ -246,7 +210,3 @@ ended_here out bytes rest after b all first quote =
 
 pub text_so_far : (out : List ℕ) (e : Expected) → GoesOn Character out e → Completes e [] → IsUtf8 out
 text_so_far out e goes done = subst IsUtf8 (append-nil out) ((goes []).0 done)
-
-pub nothing_left : (l : List ℕ) → length l ≡ 0 → l ≡ []
-nothing_left [] none = refl
-nothing_left (x ∷ l) none = absurd (omega (arith, none))

@@ -1,5 +1,6 @@
 -- The lines of transcripts, and that they lead to them.
-use Rattle.std.proofs.Common.{◌≡◌, ◌≢◌, ◌∙◌, ap, ℕ, suc, ◌+◌, ◌^◌, ◌<◌, ◌≤◌, Bool, true, false, List, [], ◌∷◌, ◌++◌, Option, Some, None, refl, sym, subst, append_assoc, arith, flat_map, map}
+use Rattle.std.proofs.Common.{◌≡◌, ◌≢◌, ◌∙◌, ap, ℕ, suc, ◌+◌, ◌^◌, ◌<◌, ◌≤◌, Bool, true, false, List, [], ◌∷◌, ◌++◌, Option, Some, None, refl, sym, subst, append_assoc, arith, flat_map, map, is_some}
+use Rattle.std.specs.Cmp.Derive.{both_true}
 use Rattle.std.specs.List.{AllByRecursion, slice_index}
 use Rattle.std.specs.List.Sorted.{IsStrictlyIncreasing}
 use Rattle.std.proofs.lemmas.Bool.{lt-ltb}
@@ -13,7 +14,8 @@ use Rattle.hc_reply.specs.declared.item.Item.{Item}
 use Rattle.hc_reply.specs.declared.item.Item.TheVariants as item
 use Rattle.hc_reply.specs.declared.progress.Progress.{Progress}
 use Rattle.hc_reply.specs.Reading.{IsRow, IsLast, IsReply, IsTranscript, IsEndingIf, AreTranscripts}
-use Rattle.hc_reply.specs.Progress.{start, reply_of, with_open, replies_of, rows_of, finish, step, is_some, and_some, may_close, is_whole, low_of, next_low, turn_of, if_true, Leads, conns}
+use Rattle.hc_reply.specs.Progress.{start, reply_of, with_open, replies_of, rows_of, finish, step, and_some, may_close, is_whole, low_of, next_low, turn_of}
+use Rattle.hc_reply.proofs.ReadSoFar.{Leads, conns}
 use Rattle.hc_reply.proofs.ReplyLines.{last_stands, last_from, ending_stands, ending_from}
 use Rattle.hc_reply.proofs.Leading.{leads_on}
 
@@ -93,10 +95,6 @@ some_there : (replies : List Reply) → replies ≢ [] → and_some true replies
 some_there [] some = absurd (some refl)
 some_there (r ∷ replies) some = refl
 
-if_both : (a b : Bool) → a ≡ true → b ≡ true → if_true a b ≡ true
-if_both true b h k = k
-if_both false b h k = absurd (let bad = h in cc)
-
 all_lead : (ts : List Transcript) (p : Progress) → is_whole p ≡ true → Rises (low_of p) ts → AllByRecursion IsTranscript ts
     → (q : Progress) × Leads p (all_lines ts) q × (is_whole q ≡ true) × (finish q ≡ finish p ++ ts)
 all_lead [] p whole up are = (p, refl, whole, sym (append-nil (finish p)))
@@ -112,7 +110,7 @@ all_lead (t ∷ ts) p whole up are =
     let low : low_of q ≡ n + 1 = ap next_low at.conn in
     let more = all_lead ts q closes (subst (λ (l : ℕ). Rises l ts) (sym low) up.1) are.1 in (
       more.0,
-      ((if_both _ _ (lt-ltb (low_of p) (2 ^ 32) room) whole, (up.0, are.0.0)), leads_on here (flat_map reply_lines t.replies) (all_lines ts) q more.0 replies.1 more.1),
+      ((both_true (lt-ltb (low_of p) (2 ^ 32) room) whole, (up.0, are.0.0)), leads_on here (flat_map reply_lines t.replies) (all_lines ts) q more.0 replies.1 more.1),
       more.2,
       more.3 ∙ ap (λ (l : List Transcript). l ++ ts) end ∙ append_assoc (finish p) (t ∷ []) ts,
     )

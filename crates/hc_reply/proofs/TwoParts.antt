@@ -10,7 +10,8 @@ use Rattle.hc_reply.specs.Output.{quoted}
 use Rattle.hc_reply.specs.Words.{words_between}
 use Rattle.hc_reply.specs.Numbers.{IsWithin}
 use Rattle.hc_reply.specs.Items.{FitsFrom, behind_end}
-use Rattle.hc_reply.specs.Stops.{Anything, NoDigit, NoQuote, IsStuck, IsPrefixFree}
+use Rattle.hc_reply.specs.Stops.{Anything, NoDigit, NoQuote, IsStuck}
+use Rattle.hc_reply.proofs.Following.{IsPrefixFree}
 use Rattle.hc_reply.proofs.Sequences.{stuck_first, stuck_second, stuck_as, ended_free}
 use Rattle.hc_reply.proofs.Digits.{number_free}
 use Rattle.hc_reply.proofs.Texts.{text_free}

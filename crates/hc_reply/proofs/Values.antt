@@ -11,7 +11,8 @@ use Rattle.hc_reply.specs.Blobs.{IsBlob}
 use Rattle.hc_reply.specs.Stops.{NoDigit, NoQuote, EndsValue, EndsBehind, SameFirst, Anything, IsStuck, IsWord, the_word, NotFirst}
 use Rattle.hc_reply.proofs.Texts.{text_free}
 use Rattle.hc_reply.proofs.Blobs.{blob_free}
-use Rattle.hc_reply.proofs.Integers.{decimal_head, head_there, integer_free}
+use Rattle.hc_reply.proofs.Integers.{decimal_head, integer_free}
+use Rattle.hc_reply.proofs.Following.{head_there}
 
 -- which byte a value begins with
 abbrev HeadOf : Value → ℕ → Type 0

@@ -1,7 +1,7 @@
 -- What words and bytes begin with in common.
 use Rattle.std.proofs.Common.{◌≡◌, ◌≢◌, ◌∙◌, ap, ℕ, zero, suc, ◌-◌, ◌<◌, ◌≤◌, ◌⊎◌, inl, inr, List, [], ◌∷◌, ◌++◌, length, take, drop, refl, sym, subst, append_assoc, arith}
 use Rattle.std.specs.Prelude.{slice_index_or}
-use Rattle.std.proofs.lemmas.List.{append-nil, length-append, append_cancel_left, take_all, length-drop}
+use Rattle.std.proofs.lemmas.List.{append-nil, length-append, append_cancel_left, nil_from_length, take_all, length-drop}
 use Rattle.hc_reply.specs.Stops.{SameFirst, Anything, Differ, IsCommon, IsStuck, IsWord, the_word}
 
 -- the first n bytes are the same
@@ -68,13 +68,9 @@ drop_front (x ∷ front) rest = drop_front front rest
 pub rest_is : (word bytes : List ℕ) (n : ℕ) (c : IsCommon word bytes n) → drop n bytes ≡ c.rest
 rest_is word bytes n c = ap (λ (k : ℕ). drop k bytes) (sym c.long) ∙ ap (λ (l : List ℕ). drop (length c.front) l) c.bytes_are ∙ drop_front c.front c.rest
 
-nothing_left : (l : List ℕ) → length l ≡ 0 → l ≡ []
-nothing_left [] none = refl
-nothing_left (x ∷ l) none = absurd (omega (arith, none))
-
 pub whole_word : (word bytes : List ℕ) (n : ℕ) → IsCommon word bytes n → n ≡ length word → bytes ≡ word ++ drop n bytes
 whole_word word bytes n c whole =
-    let none : c.left ≡ [] = nothing_left c.left (omega (arith, whole, c.long, ap length c.word_is, length-append c.front c.left)) in
+    let none : c.left ≡ [] = nil_from_length c.left (omega (arith, whole, c.long, ap length c.word_is, length-append c.front c.left)) in
     let all : word ≡ c.front = c.word_is ∙ ap (λ (l : List ℕ). c.front ++ l) none ∙ append-nil c.front in
     c.bytes_are ∙ (λ i. sym all i ++ sym (rest_is word bytes n c) i)
 

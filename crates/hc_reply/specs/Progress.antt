@@ -1,7 +1,5 @@
--- What was read of an output so far, line by line, and which line may follow.
-use Rattle.std.specs.Prelude.{◌≡◌, ℕ, ◌+◌, ◌-◌, ◌^◌, nat_lt, Bool, true, false, List, [], ◌∷◌, ◌++◌, Option, Some, None, flat_map, length, map}
-use Rattle.std.specs.List.{AllByRecursion}
-use Rattle.std.specs.List.Sorted.{IsStrictlyIncreasing}
+-- What was read of an output so far, one line more, and which lines may follow.
+use Rattle.std.specs.Prelude.{ℕ, ◌+◌, ◌-◌, ◌^◌, nat_lt, Bool, true, false, ◌&&◌, is_some, List, [], ◌∷◌, ◌++◌, Option, Some, None, length}
 use Rattle.hc_reply.specs.declared.reply.Row.{Row}
 use Rattle.hc_reply.specs.declared.reply.Line.{Line}
 use Rattle.hc_reply.specs.declared.reply.Ending.{Ending}
@@ -9,16 +7,12 @@ use Rattle.hc_reply.specs.declared.reply.Reply.{Reply}
 use Rattle.hc_reply.specs.declared.reply.Transcript.{Transcript}
 use Rattle.hc_reply.specs.declared.item.Item.{Item}
 use Rattle.hc_reply.specs.declared.item.Item.TheVariants as item
-use Rattle.hc_reply.specs.declared.opening.Opening.TheVariants as opens
 use Rattle.hc_reply.specs.declared.turn.Turn.{Turn}
 use Rattle.hc_reply.specs.declared.progress.Progress.{Progress}
 use Rattle.hc_reply.specs.declared.stop.Stop.{Stop}
 use Rattle.hc_reply.specs.declared.stop.Stop.TheVariants as stops
 use Rattle.hc_reply.specs.declared.fault.ReplyFault.{ReplyFault}
 use Rattle.hc_reply.specs.declared.fault.ReplyFault.TheVariants as fault
-use Rattle.hc_reply.specs.Items.{IsItem, item_text}
-use Rattle.hc_reply.specs.Output.{line_text, row_text, reply_text, output_text}
-use Rattle.hc_reply.specs.Reading.{Fits, IsRow, IsLast, IsReply, IsTranscript}
 
 -- before the first line
 abbrev pub start : Progress
@@ -71,10 +65,6 @@ step p (item.Ending line) = close p (Some line)
 
 -- ---- which line may follow
 
-abbrev pub is_some : {A : Type 0} → Option A → Bool
-is_some None = false
-is_some (Some a) = true
-
 abbrev pub and_some : {A : Type 0} → Bool → List A → Bool
 and_some b [] = false
 and_some b (a ∷ rest) = b
@@ -99,54 +89,8 @@ next_low (Some conn) = conn + 1
 abbrev pub low_of : Progress → ℕ
 low_of p = next_low p.conn
 
-abbrev pub if_true : Bool → Bool → Bool
-if_true true b = b
-if_true false b = false
-
 abbrev pub turn_of : Progress → Turn
-turn_of p = record { conn = if_true (nat_lt (low_of p) (2 ^ 32)) (is_whole p); reply = is_some p.conn; ending = is_some p.last }
-
--- the line may follow
-abbrev pub MayFollow : Progress → Item → Type 0
-MayFollow p line = IsItem (turn_of p) (low_of p) line
-
--- each of these lines may follow in turn, and leads there
-abbrev pub Leads : Progress → List Item → Progress → Type 0
-Leads p [] q = p ≡ q
-Leads p (line ∷ lines) q = MayFollow p line × Leads (step p line) lines q
-
--- ---- what holds of all that was read
-
-abbrev pub IsOpenLast : Option Line → Type 0
-IsOpenLast None = Unit {0}
-IsOpenLast (Some line) = IsLast line
-
-abbrev pub conns : List Transcript → List ℕ
-conns transcripts = map (λ t. t.conn) transcripts
-
--- nothing at all, or a connection whose number is above those before
-abbrev pub IsOpenConn : Progress → Option ℕ → Type 0
-IsOpenConn p None = p ≡ start
-IsOpenConn p (Some conn) = Fits opens.Conn conn × IsStrictlyIncreasing (conns p.done ++ conn ∷ [])
-
-pub record IsProgress (p : Progress) : Type 0 where
-  pub opened : IsOpenConn p p.conn
-  pub transcripts : AllByRecursion IsTranscript p.done
-  pub replies : AllByRecursion IsReply p.replies
-  pub rows : AllByRecursion IsRow p.rows
-  pub last : IsOpenLast p.last
-
--- the text of the lines
-abbrev pub lines_text : List Item → List ℕ
-lines_text lines = flat_map item_text lines
-
-abbrev pub conn_text_if : Option ℕ → List ℕ
-conn_text_if None = []
-conn_text_if (Some conn) = line_text opens.Conn conn
-
--- all text that was read
-abbrev pub text_of : Progress → List ℕ
-text_of p = output_text p.done ++ conn_text_if p.conn ++ flat_map reply_text (replies_of p) ++ flat_map row_text (rows_of p)
+turn_of p = record { conn = nat_lt (low_of p) (2 ^ 32) && is_whole p; reply = is_some p.conn; ending = is_some p.last }
 
 -- the fault of so many bytes, where a reader stopped
 abbrev pub fault_of : ℕ → Stop → ReplyFault

@@ -1,17 +1,13 @@
 -- A row as a part of an output: its values with bars (124) between them, and a line feed (10).
-use Rattle.std.specs.Prelude.{◌≢◌, ℕ, Bool, true, false, List, [], ◌∷◌, ◌++◌, flat_map}
+use Rattle.std.specs.Prelude.{◌≢◌, ℕ, Bool, true, false, List, [], ◌∷◌, ◌++◌}
 use Rattle.std.specs.List.{AllByRecursion}
 use Rattle.hc_value.specs.declared.value.Value.{Value}
-use Rattle.hc_reply.specs.Output.{value_text, values_text}
+use Rattle.hc_reply.specs.Output.{values_text}
 use Rattle.hc_reply.specs.Reading.{IsPrintable}
 
 -- the values, and the line's end
 abbrev pub row_end : List Value → List ℕ
 row_end values = values_text values ++ 10 ∷ []
-
--- values of which each has a bar behind it
-abbrev pub barred : List Value → List ℕ
-barred values = flat_map (λ v. value_text v ++ 124 ∷ []) values
 
 abbrev pub ArePrintable : List Value → Type 0
 ArePrintable values = AllByRecursion IsPrintable values

@@ -62,11 +62,6 @@ abbrev pub StopsIn : {V : Type 0} → (List ℕ → Type 0) → (V → Type 0) �
 StopsIn Ends Is text bytes (At rest) = IsStuck Ends Is text bytes rest.now
 StopsIn Ends Is text bytes NoMemory = Unit {0}
 
--- no text of a part begins another, where what follows each may follow it
-abbrev pub IsPrefixFree : {V : Type 0} → (List ℕ → Type 0) → (V → Type 0) → (V → List ℕ) → Type 0
-IsPrefixFree {V} Ends Is text =
-    (v w : V) (r s : List ℕ) → Is v → Is w → Ends r → Ends s → text v ++ r ≡ text w ++ s → (v ≡ w) × (r ≡ s)
-
 -- ---- words
 
 -- fixed words are one part, which has one text

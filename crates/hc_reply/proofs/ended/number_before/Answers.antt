@@ -4,7 +4,8 @@ use Rattle.std.proofs.lemmas.Result.{err_from_is_err_and}
 use Rattle.hc_reply.specs.Numbers.{IsWithin}
 use Rattle.hc_reply.specs.Stops.{Anything, NoDigit, IsWord, the_word}
 use Rattle.hc_reply.proofs.Sequences.{stop_as, stuck_before_word, stuck_in_word}
-use Rattle.hc_reply.proofs.Digits.{number_free, no_digit_there}
+use Rattle.hc_reply.proofs.Digits.{number_free}
+use Rattle.hc_reply.proofs.Following.{no_digit_there}
 use Rattle.hc_reply.proofs.ended.number_before.Goals as goal
 
 pub returns-in_err-n-clause-stop : goal.returns-in_err-n-clause-stop
@@ -20,5 +21,5 @@ returns-in_err-rest-clause-stop c =
     rw (p.1, p.2)
     (stop_as Anything Anything IsWord (the_word c.args.words.now) (IsWithin c.args.low c.args.high) (λ n. decimal n ++ c.args.words.now) c.in_ok-n.behind.now c.args.bytes.now
     (λ rest s. stuck_in_word NoDigit (IsWithin c.args.low c.args.high) decimal c.args.words.now c.requires.ends
-    (number_free c.args.low c.args.high c.requires.some (omega (arith, c.ranges.high))) (λ r o same none. no_digit_there c.args.low c.args.high c.requires.some (omega (arith, c.ranges.high)) r o none same)
+    (number_free c.args.low c.args.high c.requires.some (omega (arith, c.ranges.high))) no_digit_there
     c.args.bytes.now c.in_ok-n.behind.now rest c.in_ok-n.n c.in_ok-n.ensures.found.0 c.in_ok-n.ensures.found.1 c.in_ok-n.ensures.found.2 s) c.in_err-rest.field-0.0 c.in_err-rest.ensures.stop)

@@ -4,7 +4,8 @@ use Rattle.std.proofs.lemmas.Result.{err_from_is_err_and}
 use Rattle.hc_reply.specs.Output.{quoted}
 use Rattle.hc_reply.specs.Stops.{Anything, NoQuote, IsWord, the_word}
 use Rattle.hc_reply.proofs.Sequences.{stop_as, stuck_before_word, stuck_in_word}
-use Rattle.hc_reply.proofs.Texts.{text_free, no_quote_there}
+use Rattle.hc_reply.proofs.Texts.{text_free}
+use Rattle.hc_reply.proofs.Following.{no_quote_there}
 use Rattle.hc_reply.proofs.ended.text_before.Goals as goal
 
 pub returns-in_err-text-clause-stop : goal.returns-in_err-text-clause-stop

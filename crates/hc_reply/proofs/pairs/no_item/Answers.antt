@@ -6,7 +6,7 @@ use Rattle.hc_reply.specs.Items.{FitsFrom, behind_end}
 use Rattle.hc_reply.specs.Stops.{Anything, NoDigit, IsWord, the_word}
 use Rattle.hc_reply.proofs.Sequences.{stop_as, stuck_before_word, stuck_in_word}
 use Rattle.hc_reply.proofs.Integers.{integer_free}
-use Rattle.hc_reply.proofs.Digits.{no_digit_there}
+use Rattle.hc_reply.proofs.Following.{no_digit_there}
 use Rattle.hc_reply.proofs.pairs.no_item.Goals as goal
 
 pub returns-in_err-n-clause-stop : goal.returns-in_err-n-clause-stop
@@ -21,5 +21,5 @@ returns-in_err-rest-clause-stop c =
     let p = err_from_is_err_and c.from_residual-in_err-rest.result c.from_residual-in_err-rest.ensures.1 in
     rw (p.1, p.2)
     (stop_as Anything Anything IsWord (the_word (10 ∷ [])) (FitsFrom c.args.low opens.NoItem) (behind_end opens.NoItem) c.in_ok-n.behind.now c.args.bytes.now
-    (λ rest s. stuck_in_word NoDigit (FitsSigned w64) signed_decimal (10 ∷ []) (λ behind. inl (omega arith)) integer_free (λ r o same none. no_digit_there 0 0 (omega arith) (omega arith) r o none same)
+    (λ rest s. stuck_in_word NoDigit (FitsSigned w64) signed_decimal (10 ∷ []) (λ behind. inl (omega arith)) integer_free no_digit_there
     c.args.bytes.now c.in_ok-n.behind.now rest c.in_ok-n.n c.in_ok-n.ensures.found.0 c.in_ok-n.ensures.found.1 c.in_ok-n.ensures.found.2 s) c.in_err-rest.field-0.0 c.in_err-rest.ensures.stop)

@@ -1,11 +1,12 @@
 -- The values so far are read, each with its bar.
 use Rattle.std.proofs.Common.{◌≡◌, ◌++◌, length}
-use Rattle.hc_reply.specs.Rows.{barred, ArePrintable}
+use Rattle.hc_reply.specs.Rows.{ArePrintable}
+use Rattle.hc_reply.proofs.Rows.{before_bars}
 use Rattle.hc_reply.proofs.row.row.Given as goal
 
 abbrev pub invariant-loop-values : goal.invariant-loop-values
 invariant-loop-values l = record {
-  written : l.bytes ≡ barred l.values ++ l.rest;
+  written : l.bytes ≡ before_bars l.values ++ l.rest;
   are : ArePrintable l.values;
 }
 

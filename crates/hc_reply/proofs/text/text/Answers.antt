@@ -1,4 +1,5 @@
-use Rattle.hc_reply.proofs.Texts.{stuck_without_quote, stuck_at_end, stuck_at_byte, goes_further, written_further, nothing_left}
+use Rattle.std.proofs.lemmas.List.{nil_from_length}
+use Rattle.hc_reply.proofs.Texts.{stuck_without_quote, stuck_at_end, stuck_at_byte, goes_further, written_further}
 use Rattle.hc_reply.proofs.text.text.Goals as goal
 
 pub returns-in_default-clause-stop : goal.returns-in_default-clause-stop
@@ -22,4 +23,4 @@ loop-byte-preserved c = record {
 pub returns-clause-stop : goal.returns-clause-stop
 returns-clause-stop c =
     stuck_at_end c.loop-byte.out.items c.args.bytes.now c.loop-byte.rest.now c.loop-byte.expected
-    c.loop-byte.invariant.alive c.loop-byte.invariant.goes c.loop-byte.invariant.written (nothing_left c.loop-byte.rest.now c.in_default-split_first.ensures.cases)
+    c.loop-byte.invariant.alive c.loop-byte.invariant.goes c.loop-byte.invariant.written (nil_from_length c.loop-byte.rest.now c.in_default-split_first.ensures.cases)
