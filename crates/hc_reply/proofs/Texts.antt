@@ -1,5 +1,5 @@
 -- A text in quotes, read up to its end or up to a fault.
-use Rattle.std.proofs.Common.{◌≡◌, ◌≢◌, ◌∙◌, ap, ◌==◌, if◌then◌else◌, ℕ, zero, suc, ◌<◌, ◌≤◌, ◌⊎◌, inl, inr, List, [], ◌∷◌, ◌++◌, length, refl, sym, subst, append_assoc, arith}
+use Rattle.std.proofs.Common.{◌≡◌, ◌≢◌, ◌∙◌, ap, ◌==◌, if◌then◌else◌, ℕ, ◌<◌, ◌⊎◌, inl, inr, List, [], ◌∷◌, ◌++◌, length, refl, sym, subst, append_assoc, arith}
 use Rattle.std.specs.Str.{IsUtf8}
 use Rattle.std.proofs.lemmas.Bool.{cases_eq, ne_eqb}
 use Rattle.std.proofs.lemmas.Str.{IsUtf8-nil}
@@ -7,8 +7,9 @@ use Rattle.std.proofs.lemmas.Grind.{flat_map-append}
 use Rattle.std.proofs.lemmas.List.{append-nil, length-append, nil_from_length}
 use Rattle.hc_lex.specs.Quotes.{doubled}
 use Rattle.hc_value.specs.declared.expected.Expected.{Expected}
-use Rattle.hc_value.specs.declared.expected.Expected.TheVariants.{Any, Character, Following}
-use Rattle.hc_value.specs.Expected.{Follows, Completes, IsOpen, IsNext, IsRefused, GoesOn}
+use Rattle.hc_value.specs.declared.expected.Expected.TheVariants.{Character}
+use Rattle.hc_value.specs.Expected.{Completes, IsOpen, IsNext, IsRefused, GoesOn}
+use Rattle.hc_value.proofs.Ends.{some_completes}
 use Rattle.hc_reply.specs.Output.{quoted}
 use Rattle.hc_reply.specs.Stops.{NoQuote, SameFirst, IsStuck}
 use Rattle.hc_reply.proofs.Following.{IsPrefixFree, no_quote_there, same_byte}
@@ -120,19 +121,6 @@ stuck_without_quote bytes none = record {
   begins = refl;
   none = λ v behind other is ends same e. subst NoQuote (sym e) (no_quote_there bytes other same none) refl;
 }
-
-filled : (more low high : ℕ) → low ≤ high → (x : List ℕ) × Follows more low high x
-filled zero low high le = ([], IsUtf8-nil)
-filled (suc more) low high le =
-    let rest = filled more 128 191 (omega arith) in
-    let least : low ≤ low = omega arith in
-    (low ∷ rest.0, (least, le, rest.1))
-
--- what is expected can come
-some_completes : (e : Expected) → IsOpen e → (x : List ℕ) × Completes e x
-some_completes Any alive = ([], tt)
-some_completes Character alive = ([], IsUtf8-nil)
-some_completes (Following more low high) alive = filled more low high alive.2
 
 -- some text goes on from here
 begun : (out : List ℕ) (e : Expected) → IsOpen e → GoesOn Character out e → (v : List ℕ) × (more : List ℕ) × IsUtf8 v × (quoted v ≡ (39 ∷ doubled 39 out) ++ more)
