@@ -1,5 +1,5 @@
 -- One part behind the other: where the first stops or the second, the two do.
-use Rattle.std.proofs.Common.{◌≡◌, ◌∙◌, ap, ℕ, List, [], ◌∷◌, ◌++◌, refl, sym, subst, append_assoc}
+use Rattle.std.proofs.Common.{◌≡◌, ◌∙◌, ap, ℕ, List, ◌++◌, sym, subst, append_assoc}
 use Rattle.std.proofs.lemmas.List.{append_cancel_left}
 use Rattle.hc_reply.specs.declared.stop.Stop.{Stop}
 use Rattle.hc_reply.specs.declared.stop.Stop.TheVariants.{At, NoMemory}

@@ -1,5 +1,5 @@
 -- One line more: what was read stays right, and its text is longer by the line's.
-use Rattle.std.proofs.Common.{slice_index_or, ◌⊎◌, inl, inr, ◌≡◌, ◌≢◌, ◌∙◌, ap, ℕ, ◌+◌, ◌<◌, ◌≤◌, Bool, true, false, List, [], ◌∷◌, ◌++◌, Option, Some, None, length, refl, sym, subst, append_assoc, arith, flat_map, is_some}
+use Rattle.std.proofs.Common.{slice_index_or, ◌⊎◌, inl, inr, ◌≡◌, ◌≢◌, ◌∙◌, ap, ℕ, ◌+◌, ◌<◌, ◌≤◌, true, false, List, [], ◌∷◌, ◌++◌, Option, Some, None, length, refl, sym, subst, append_assoc, arith, flat_map, is_some}
 use Rattle.std.specs.Cmp.{second_so}
 use Rattle.std.specs.List.{AllByRecursion}
 use Rattle.std.specs.List.Sorted.{IsStrictlyIncreasing}
