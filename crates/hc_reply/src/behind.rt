@@ -1,5 +1,5 @@
 // What stands behind the words of a line with one number or one name, with nothing, or with a row.
-ghost use Rattle.std.specs.Prelude.{◌≡◌, ◌^◌, ◌<◌, IfOk, IfErr};
+ghost use Rattle.std.specs.Prelude.{◌≡◌, ℕ, ◌^◌, ◌<◌, IfOk, IfErr};
 ghost use Rattle.hc_reply.specs.declared.opening.Opening.TheVariants as opens;
 ghost use Rattle.hc_reply.specs.Items.{IsReadItem, StopsAtItem, bare_of, ending_of, name_of, number_of};
 
@@ -25,36 +25,36 @@ pub fn conn(low: u64, bytes: &[u8]) -> Result<(Item, &[u8]), Stop<'_>>
 }
 
 /// The values of a row, and the line's end.
-pub fn row_item<'a>(alloc: Global, low: u64, bytes: &'a [u8]) -> Result<(Item, &'a [u8]), Stop<'a>>
-    ensures found { IfOk result (λ x. IsReadItem low opens.Row bytes.now x.0 x.1.now) }
-    ensures stop { IfErr result (StopsAtItem low opens.Row bytes.now) }
+pub fn row_item<'a>(alloc: Global, bytes: &'a [u8]) -> Result<(Item, &'a [u8]), Stop<'a>>
+    ensures found { (low : ℕ) → IfOk result (λ x. IsReadItem low opens.Row bytes.now x.0 x.1.now) }
+    ensures stop { (low : ℕ) → IfErr result (StopsAtItem low opens.Row bytes.now) }
 {
     let (values, rest) = row(alloc, bytes)?;
     Ok((Item::Row(Row { values }), rest))
 }
 
 /// A count, and the line's end.
-pub fn count(low: u64, bytes: &[u8]) -> Result<(Item, &[u8]), Stop<'_>>
-    ensures found { IfOk result (λ x. IsReadItem low opens.Ok bytes.now x.0 x.1.now) }
-    ensures stop { IfErr result (StopsAtItem low opens.Ok bytes.now) }
+pub fn count(bytes: &[u8]) -> Result<(Item, &[u8]), Stop<'_>>
+    ensures found { (low : ℕ) → IfOk result (λ x. IsReadItem low opens.Ok bytes.now x.0 x.1.now) }
+    ensures stop { (low : ℕ) → IfErr result (StopsAtItem low opens.Ok bytes.now) }
 {
     let (n, rest) = number_before(0, u64::MAX, b"\n", bytes)?;
     Ok((Item::Last(Line::Ok(n)), rest))
 }
 
 /// The length of an entry, and the line's end.
-pub fn too_big(low: u64, bytes: &[u8]) -> Result<(Item, &[u8]), Stop<'_>>
-    ensures found { IfOk result (λ x. IsReadItem low opens.TooBig bytes.now x.0 x.1.now) }
-    ensures stop { IfErr result (StopsAtItem low opens.TooBig bytes.now) }
+pub fn too_big(bytes: &[u8]) -> Result<(Item, &[u8]), Stop<'_>>
+    ensures found { (low : ℕ) → IfOk result (λ x. IsReadItem low opens.TooBig bytes.now x.0 x.1.now) }
+    ensures stop { (low : ℕ) → IfErr result (StopsAtItem low opens.TooBig bytes.now) }
 {
     let (n, rest) = number_before(0, u64::MAX, b"\n", bytes)?;
     Ok((Item::Last(Line::Error(Refusal::TooBig(n))), rest))
 }
 
 /// A number of commits, and the line's end.
-pub fn ending(low: u64, line: EndingLine, bytes: &[u8]) -> Result<(Item, &[u8]), Stop<'_>>
-    ensures found { IfOk result (λ x. IsReadItem low (opens.Ending line) bytes.now x.0 x.1.now) }
-    ensures stop { IfErr result (StopsAtItem low (opens.Ending line) bytes.now) }
+pub fn ending(line: EndingLine, bytes: &[u8]) -> Result<(Item, &[u8]), Stop<'_>>
+    ensures found { (low : ℕ) → IfOk result (λ x. IsReadItem low (opens.Ending line) bytes.now x.0 x.1.now) }
+    ensures stop { (low : ℕ) → IfErr result (StopsAtItem low (opens.Ending line) bytes.now) }
 {
     let (n, rest) = number_before(0, GREATEST_32, b"\n", bytes)?;
     Ok((Item::Ending(ending_of(line, n as u32)), rest))
@@ -71,9 +71,9 @@ fn ending_of(line: EndingLine, n: u32) -> Ending
 }
 
 /// A place or a limit, and the line's end.
-pub fn number_item(low: u64, line: NumberLine, bytes: &[u8]) -> Result<(Item, &[u8]), Stop<'_>>
-    ensures found { IfOk result (λ x. IsReadItem low (opens.Number line) bytes.now x.0 x.1.now) }
-    ensures stop { IfErr result (StopsAtItem low (opens.Number line) bytes.now) }
+pub fn number_item(line: NumberLine, bytes: &[u8]) -> Result<(Item, &[u8]), Stop<'_>>
+    ensures found { (low : ℕ) → IfOk result (λ x. IsReadItem low (opens.Number line) bytes.now x.0 x.1.now) }
+    ensures stop { (low : ℕ) → IfErr result (StopsAtItem low (opens.Number line) bytes.now) }
 {
     let (n, rest) = number_before(0, GREATEST_32, b"\n", bytes)?;
     Ok((Item::Last(Line::Error(number_of(line, n as u32))), rest))
@@ -94,12 +94,11 @@ fn number_of(line: NumberLine, n: u32) -> Refusal
 /// A name, and the line's end.
 pub fn name_item<'a>(
     alloc: Global,
-    low: u64,
     line: NameLine,
     bytes: &'a [u8],
 ) -> Result<(Item, &'a [u8]), Stop<'a>>
-    ensures found { IfOk result (λ x. IsReadItem low (opens.Name line) bytes.now x.0 x.1.now) }
-    ensures stop { IfErr result (StopsAtItem low (opens.Name line) bytes.now) }
+    ensures found { (low : ℕ) → IfOk result (λ x. IsReadItem low (opens.Name line) bytes.now x.0 x.1.now) }
+    ensures stop { (low : ℕ) → IfErr result (StopsAtItem low (opens.Name line) bytes.now) }
 {
     let (name, rest) = text_before(alloc, b"\n", bytes)?;
     Ok((Item::Last(Line::Error(name_of(line, name))), rest))
@@ -124,9 +123,9 @@ fn name_of(line: NameLine, name: Str) -> Refusal
 }
 
 /// The line's end alone.
-pub fn bare_item(low: u64, line: BareLine, bytes: &[u8]) -> Result<(Item, &[u8]), Stop<'_>>
-    ensures found { IfOk result (λ x. IsReadItem low (opens.Bare line) bytes.now x.0 x.1.now) }
-    ensures stop { IfErr result (StopsAtItem low (opens.Bare line) bytes.now) }
+pub fn bare_item(line: BareLine, bytes: &[u8]) -> Result<(Item, &[u8]), Stop<'_>>
+    ensures found { (low : ℕ) → IfOk result (λ x. IsReadItem low (opens.Bare line) bytes.now x.0 x.1.now) }
+    ensures stop { (low : ℕ) → IfErr result (StopsAtItem low (opens.Bare line) bytes.now) }
 {
     let rest = behind_word(b"\n", bytes)?;
     Ok((Item::Last(Line::Error(bare_of(line))), rest))

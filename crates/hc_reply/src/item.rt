@@ -56,16 +56,16 @@ fn item_behind<'a>(
 {
     match head {
         Opening::Conn => conn(low, bytes),
-        Opening::Row => row_item(alloc, low, bytes),
-        Opening::Ok => count(low, bytes),
-        Opening::Ending(line) => ending(low, line, bytes),
-        Opening::Bare(line) => bare_item(low, line, bytes),
-        Opening::Number(line) => number_item(low, line, bytes),
-        Opening::Name(line) => name_item(alloc, low, line, bytes),
-        Opening::Names(line) => names_item(alloc, low, line, bytes),
-        Opening::Numbers(line) => numbers_item(low, line, bytes),
-        Opening::NoItem => no_item(low, bytes),
-        Opening::TooBig => too_big(low, bytes),
-        Opening::Busy => busy(alloc, low, bytes),
+        Opening::Row => row_item(alloc, bytes),
+        Opening::Ok => count(bytes),
+        Opening::Ending(line) => ending(line, bytes),
+        Opening::Bare(line) => bare_item(line, bytes),
+        Opening::Number(line) => number_item(line, bytes),
+        Opening::Name(line) => name_item(alloc, line, bytes),
+        Opening::Names(line) => names_item(alloc, line, bytes),
+        Opening::Numbers(line) => numbers_item(line, bytes),
+        Opening::NoItem => no_item(bytes),
+        Opening::TooBig => too_big(bytes),
+        Opening::Busy => busy(alloc, bytes),
     }
 }

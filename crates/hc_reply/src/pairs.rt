@@ -1,5 +1,5 @@
 // What stands behind the words of a line with several parts, or with an integer.
-ghost use Rattle.std.specs.Prelude.{◌≡◌, ◌≤◌, [], ◌∷◌, ◌++◌, length, IfOk, IfErr};
+ghost use Rattle.std.specs.Prelude.{◌≡◌, ℕ, ◌≤◌, [], ◌∷◌, ◌++◌, length, IfOk, IfErr};
 ghost use Rattle.hc_reply.specs.declared.opening.Opening.TheVariants as opens;
 ghost use Rattle.hc_reply.specs.Items.{IsReadItem, StopsAtItem, names_of, numbers_of, IsKey, key_end};
 ghost use Rattle.hc_reply.specs.Stops.{Anything, StopsIn};
@@ -18,9 +18,9 @@ use hc_value::Str;
 use std::alloc::Global;
 
 /// An item's number, and the line's end.
-pub fn no_item(low: u64, bytes: &[u8]) -> Result<(Item, &[u8]), Stop<'_>>
-    ensures found { IfOk result (λ x. IsReadItem low opens.NoItem bytes.now x.0 x.1.now) }
-    ensures stop { IfErr result (StopsAtItem low opens.NoItem bytes.now) }
+pub fn no_item(bytes: &[u8]) -> Result<(Item, &[u8]), Stop<'_>>
+    ensures found { (low : ℕ) → IfOk result (λ x. IsReadItem low opens.NoItem bytes.now x.0 x.1.now) }
+    ensures stop { (low : ℕ) → IfErr result (StopsAtItem low opens.NoItem bytes.now) }
 {
     let (n, behind) = integer(bytes)?;
     let rest = behind_word(b"\n", behind)?;
@@ -30,12 +30,11 @@ pub fn no_item(low: u64, bytes: &[u8]) -> Result<(Item, &[u8]), Stop<'_>>
 /// Two names, and the line's end.
 pub fn names_item<'a>(
     alloc: Global,
-    low: u64,
     line: NamesLine,
     bytes: &'a [u8],
 ) -> Result<(Item, &'a [u8]), Stop<'a>>
-    ensures found { IfOk result (λ x. IsReadItem low (opens.Names line) bytes.now x.0 x.1.now) }
-    ensures stop { IfErr result (StopsAtItem low (opens.Names line) bytes.now) }
+    ensures found { (low : ℕ) → IfOk result (λ x. IsReadItem low (opens.Names line) bytes.now x.0 x.1.now) }
+    ensures stop { (low : ℕ) → IfErr result (StopsAtItem low (opens.Names line) bytes.now) }
 {
     let (first, behind) = text_before(alloc, b" ", bytes)?;
     let (second, rest) = text_before(alloc, b"\n", behind)?;
@@ -62,9 +61,9 @@ fn names_of(line: NamesLine, first: Str, second: Str) -> Refusal
 }
 
 /// Two numbers, and the line's end.
-pub fn numbers_item(low: u64, line: NumbersLine, bytes: &[u8]) -> Result<(Item, &[u8]), Stop<'_>>
-    ensures found { IfOk result (λ x. IsReadItem low (opens.Numbers line) bytes.now x.0 x.1.now) }
-    ensures stop { IfErr result (StopsAtItem low (opens.Numbers line) bytes.now) }
+pub fn numbers_item(line: NumbersLine, bytes: &[u8]) -> Result<(Item, &[u8]), Stop<'_>>
+    ensures found { (low : ℕ) → IfOk result (λ x. IsReadItem low (opens.Numbers line) bytes.now x.0 x.1.now) }
+    ensures stop { (low : ℕ) → IfErr result (StopsAtItem low (opens.Numbers line) bytes.now) }
 {
     let (first, behind) = number_before(0, GREATEST_32, words_between(line), bytes)?;
     let (second, rest) = number_before(0, GREATEST_32, b"\n", behind)?;
@@ -90,9 +89,9 @@ fn numbers_of(line: NumbersLine, first: u32, second: u32) -> Refusal
 }
 
 /// A connection's number, an ordinal and a key, and the line's end.
-pub fn busy<'a>(alloc: Global, low: u64, bytes: &'a [u8]) -> Result<(Item, &'a [u8]), Stop<'a>>
-    ensures found { IfOk result (λ x. IsReadItem low opens.Busy bytes.now x.0 x.1.now) }
-    ensures stop { IfErr result (StopsAtItem low opens.Busy bytes.now) }
+pub fn busy<'a>(alloc: Global, bytes: &'a [u8]) -> Result<(Item, &'a [u8]), Stop<'a>>
+    ensures found { (low : ℕ) → IfOk result (λ x. IsReadItem low opens.Busy bytes.now x.0 x.1.now) }
+    ensures stop { (low : ℕ) → IfErr result (StopsAtItem low opens.Busy bytes.now) }
 {
     let (conn, behind) = number_before(0, GREATEST_32, b" txn ", bytes)?;
     let (ord, other) = number_before(0, GREATEST_32, b" key ", behind)?;

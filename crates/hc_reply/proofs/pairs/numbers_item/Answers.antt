@@ -13,27 +13,27 @@ use Rattle.hc_reply.proofs.TwoParts.{numbers_first, numbers_second, numbers_foun
 use Rattle.hc_reply.proofs.pairs.numbers_item.Goals as goal
 
 pub returns-in_err-first-clause-stop : goal.returns-in_err-first-clause-stop
-returns-in_err-first-clause-stop c =
+returns-in_err-first-clause-stop c = λ low.
     let p = err_from_is_err_and c.from_residual.result c.from_residual.ensures.1 in
     rw (p.1, p.2)
-    (stop_as Anything Anything (IsWithin 0 4294967295) (λ n. decimal n ++ words_between c.args.line) (FitsFrom c.args.low (opens.Numbers c.args.line)) (behind_end (opens.Numbers c.args.line)) c.args.bytes.now c.args.bytes.now
-    (λ rest s. numbers_first c.args.low c.args.line c.args.bytes.now rest s) c.in_err-first.field-0.0
+    (stop_as Anything Anything (IsWithin 0 4294967295) (λ n. decimal n ++ words_between c.args.line) (FitsFrom low (opens.Numbers c.args.line)) (behind_end (opens.Numbers c.args.line)) c.args.bytes.now c.args.bytes.now
+    (λ rest s. numbers_first low c.args.line c.args.bytes.now rest s) c.in_err-first.field-0.0
     (subst (λ (w : List ℕ). StopsIn Anything (IsWithin 0 4294967295) (λ n. decimal n ++ w) c.args.bytes.now c.in_err-first.field-0.0) c.words_between.ensures c.in_err-first.ensures.stop))
 
 pub returns-in_err-second-clause-stop : goal.returns-in_err-second-clause-stop
-returns-in_err-second-clause-stop c =
+returns-in_err-second-clause-stop c = λ low.
     let p = err_from_is_err_and c.from_residual-in_err-second.result c.from_residual-in_err-second.ensures.1 in
     let first = c.in_ok-first.ensures.found.1 in
     rw (p.1, p.2)
-    (stop_as Anything Anything (IsWithin 0 4294967295) (λ n. decimal n ++ 10 ∷ []) (FitsFrom c.args.low (opens.Numbers c.args.line)) (behind_end (opens.Numbers c.args.line)) c.in_ok-first.behind.now c.args.bytes.now
-    (λ rest s. numbers_second c.args.low c.args.line c.args.bytes.now c.in_ok-first.behind.now rest c.in_ok-first.first c.in_ok-first.ensures.found.0
+    (stop_as Anything Anything (IsWithin 0 4294967295) (λ n. decimal n ++ 10 ∷ []) (FitsFrom low (opens.Numbers c.args.line)) (behind_end (opens.Numbers c.args.line)) c.in_ok-first.behind.now c.args.bytes.now
+    (λ rest s. numbers_second low c.args.line c.args.bytes.now c.in_ok-first.behind.now rest c.in_ok-first.first c.in_ok-first.ensures.found.0
     (first ∙ ap (λ (w : List ℕ). (decimal c.in_ok-first.first ++ w) ++ c.in_ok-first.behind.now) c.words_between.ensures) s) c.in_err-second.field-0.0 c.in_err-second.ensures.stop)
 
 pub returns-clause-found : goal.returns-clause-found
-returns-clause-found c = (
+returns-clause-found c = λ low. (
   (c.in_ok-first.first, c.in_ok-second.second),
   (omega (arith, c.in_ok-first.ensures.found.0.1), omega (arith, c.in_ok-second.ensures.found.0.1)),
   ap (λ r. item.Last (last.Error r)) c.numbers_of.ensures,
-  numbers_found c.args.low c.args.line c.args.bytes.now c.in_ok-first.behind.now c.in_ok-second.rest.now c.in_ok-first.first c.in_ok-second.second
+  numbers_found low c.args.line c.args.bytes.now c.in_ok-first.behind.now c.in_ok-second.rest.now c.in_ok-first.first c.in_ok-second.second
       (c.in_ok-first.ensures.found.1 ∙ ap (λ (w : List ℕ). (decimal c.in_ok-first.first ++ w) ++ c.in_ok-first.behind.now) c.words_between.ensures) c.in_ok-second.ensures.found.1,
 )
