@@ -16,6 +16,7 @@ mod Rising
 mod Rows
 mod Runs
 pub mod Scripts
+pub mod SerialOutput
 mod Setups
 mod SoFar
 mod SoFarEach

@@ -1,16 +1,8 @@
 -- The examples: their inputs are scripts, and their outputs are computed from the serial runs of these.
-use Rattle.std.proofs.Common.{◌≡◌, ap, sym, refl, inl, inr, ⊎_elim, arith, lit<, ℕ, zero, suc, pos, ◌<◌, ◌≤◌, ◌^◌, List, [], ◌∷◌, ◌++◌, length, get_or, codes}
+use Rattle.std.proofs.Common.{◌≡◌, ap, sym, refl, inl, inr, ⊎_elim, arith, lit<, ℕ, pos, ◌<◌, ◌≤◌, ◌^◌, List, [], ◌∷◌, ◌++◌, length, get_or, codes}
 use Rattle.std.specs.Prelude.{decimal}
 use Rattle.std.specs.Fmt.{digits}
-use Rattle.std.specs.List.{AllByRecursion}
-use Rattle.std.specs.List.Sorted.{IsStrictlyIncreasing}
-use Rattle.std.specs.Str.{IsAscii, IsUtf8}
-use Rattle.std.proofs.Math.Facts.{sfits_lit}
-use Rattle.std.proofs.lemmas.Str.{IsUtf8-from_ascii}
-use Rattle.std.proofs.lemmas.Str.Ascii.{IsAscii-nil}
 use Rattle.hc_reply.specs.Output.{output_text}
-use Rattle.hc_reply.specs.declared.reply.Reply.{Reply}
-use Rattle.hc_reply.specs.Reading.{IsReply, AreTranscripts}
 use Rattle.hc_meaning.specs.declared.statement.Statement.{Statement}
 use Rattle.hc_meaning.specs.declared.statement.Statement.TheVariants.{Insert, Select}
 use Rattle.hc_meaning.specs.Input.{IsNumber, IsScript, IsStatement}
@@ -20,33 +12,18 @@ use Rattle.hc_meaning.specs.Examples.{text_of, HasRightOutput, ARowIsReadBack, A
 use Rattle.hc_meaning.proofs.Alone.{right-alone}
 use Rattle.hc_meaning.proofs.OnlyOutput.{only-output}
 use Rattle.hc_meaning.proofs.Scripts.{First, script_first}
+use Rattle.hc_meaning.proofs.SerialOutput.{serial_prints}
 use Rattle.hc_meaning.proofs.Statements.{statement_head}
 
-ascii_each : (bytes : List ℕ) → AllByRecursion (λ b. b < 128) bytes → IsAscii bytes
-ascii_each [] are i = IsAscii-nil i
-ascii_each (b ∷ bytes) are zero = are.0
-ascii_each (b ∷ bytes) are (suc i) = ascii_each bytes are.1 i
-
--- bytes of ASCII are a text
-ascii_is_text : (bytes : List ℕ) → AllByRecursion (λ b. b < 128) bytes → IsUtf8 bytes
-ascii_is_text bytes are = IsUtf8-from_ascii bytes (ascii_each bytes are)
-
-one_ascends : (conn : ℕ) → IsStrictlyIncreasing (conn ∷ [])
-one_ascends conn k within = absurd (omega (arith, within))
-
--- what an output can have of replies, it can have of the setup's transcript with them
-setup_prints : (reply : Reply) (replies : List Reply) → AllByRecursion IsReply (reply ∷ replies) → AreTranscripts (record { conn = 0; replies = reply ∷ replies } ∷ [])
-setup_prints reply replies are = (one_ascends 0, ((lit< tt, λ e. cc, are), tt))
-
 -- a script's output is that of its serial run
-from_script : (input : List ℕ) (lines : List (List ℕ)) (statements : List Statement) → IsScript input statements → length input ≤ 16777216 → length statements ≤ 65535 → AreTranscripts (played_alone statements) → text_of lines ≡ output_text (played_alone statements)
+from_script : (input : List ℕ) (lines : List (List ℕ)) (statements : List Statement) → IsScript input statements → length input ≤ 16777216 → length statements ≤ 65535 → text_of lines ≡ output_text (played_alone statements)
     → HasRightOutput input lines
-from_script input lines statements is_script within few are is_text =
+from_script input lines statements is_script within few is_output =
     let right : IsRightOutput input (text_of lines) = record {
       scripts = record { conn = 0; statements = statements } ∷ [];
       is_input = (statements, is_script, within, few, refl);
       transcripts = played_alone statements;
-      is_output = (are, is_text);
+      is_output = (serial_prints input statements is_script few, is_output);
       is_run = right-alone statements;
     } in
     record { right = right; only = λ output other. only-output input output (text_of lines) other right }
@@ -72,9 +49,7 @@ a_row_is_read_back = from_script _ _ (Insert (pos 1) (pos 10) ∷ Select (pos 1)
   refl,
   (codes " ", codes "SELECT v FROM t WHERE id=1;", [], (inl refl, tt), select 1 (lit< tt), refl, tt),
 )
-    (omega arith) (omega arith)
-    (setup_prints _ _ ((tt, lit< tt, lit< tt), (((((λ e. cc), ((sfits_lit tt, tt), tt)), tt), lit< tt, lit< tt), tt)))
-    refl
+    (omega arith) (omega arith) refl
 
 pub a_taken_id_is_refused : ATakenIdIsRefused
 unfolding digits
@@ -87,17 +62,13 @@ a_taken_id_is_refused = from_script _ _ (Insert (pos 1) (pos 10) ∷ Insert (pos
   refl,
   (codes " ", codes "INSERT INTO t VALUES(1,11);", [], (inl refl, tt), insert 1 11 (lit< tt) (lit< tt), refl, tt),
 )
-    (omega arith) (omega arith)
-    (setup_prints _ _ ((tt, lit< tt, lit< tt), ((tt, (ascii_is_text (codes "t") (lit< tt, tt), ascii_is_text (codes "id") (lit< tt, (lit< tt, tt))), lit< tt), tt)))
-    refl
+    (omega arith) (omega arith) refl
 
 pub an_absent_id_has_no_row : AnAbsentIdHasNoRow
 unfolding digits
 an_absent_id_has_no_row = from_script _ _ (Select (pos 9) ∷ [])
     ([], codes "SELECT v FROM t WHERE id=9;", [], tt, select 9 (lit< tt), refl, tt)
-    (omega arith) (omega arith)
-    (setup_prints _ _ ((tt, lit< tt, lit< tt), tt))
-    refl
+    (omega arith) (omega arith) refl
 
 other_byte : (a b : ℕ) → a < b → a ≡ b → ⊥
 other_byte a b less e = omega arith

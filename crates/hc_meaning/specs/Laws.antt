@@ -2,11 +2,12 @@
 use Rattle.std.specs.Prelude.{◌≡◌, ℕ, List, [], ◌∷◌}
 use Rattle.hc_reply.specs.declared.reply.Transcript.{Transcript}
 use Rattle.hc_meaning.specs.declared.statement.Statement.{Statement}
+use Rattle.hc_meaning.specs.declared.transaction.Script.{Script}
 use Rattle.hc_meaning.specs.declared.transaction.Transaction.{Transaction}
 use Rattle.hc_meaning.specs.Database.{Db, IsDb}
 use Rattle.hc_meaning.specs.Run.{run}
 use Rattle.hc_meaning.specs.History.{state}
-use Rattle.hc_meaning.specs.Input.{IsScript}
+use Rattle.hc_meaning.specs.Input.{IsInput, IsScript}
 use Rattle.hc_meaning.specs.Played.{played_alone}
 use Rattle.hc_meaning.specs.RightOutput.{IsRightRun, IsRightOutput}
 
@@ -30,6 +31,10 @@ SerialRunIsRight = (statements : List Statement) → IsRightRun (record { conn =
 abbrev pub RightRunIsSerial : Type 0
 RightRunIsSerial = (statements : List Statement) (transcripts : List Transcript)
     → IsRightRun (record { conn = 0; statements = statements } ∷ []) transcripts → transcripts ≡ played_alone statements
+
+-- each input has a right output
+abbrev pub EachInputHasARightOutput : Type 0
+EachInputHasARightOutput = (input : List ℕ) (scripts : List Script) → IsInput input scripts → (output : List ℕ) × IsRightOutput input output
 
 -- an input has one right output at most, since the setup script is all of it
 abbrev pub HasOneRightOutput : Type 0

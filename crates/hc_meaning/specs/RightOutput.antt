@@ -60,8 +60,8 @@ pub record IsRightRun (scripts : List Script) (transcripts : List Transcript) : 
   pub others : (t : Transaction) → Contains transactions t → IsReadUnlessCommitted history t t.ending
   pub in_order : IsInOrder transactions history
 
--- The output is the text of transcripts that are right for the scripts of the input. They are transcripts that an
--- output can have, so no others have this text.
+-- The output is the text of transcripts that are right for the scripts of the input, and are such as an output can
+-- have: no other such transcripts have this text.
 pub record IsRightOutput (input output : List ℕ) : Type 0 where
   pub scripts : List Script
   pub is_input : IsInput input scripts

@@ -1,5 +1,5 @@
 // What follows from the definitions alone. Each law is the contract of a function that does nothing.
-ghost use Rattle.hc_meaning.specs.Laws.{EveryStateIsInOrder, HasOneReading, HasOneRightOutput, RightRunIsSerial, RunKeepsIdsInOrder, SerialRunIsRight};
+ghost use Rattle.hc_meaning.specs.Laws.{EachInputHasARightOutput, EveryStateIsInOrder, HasOneReading, HasOneRightOutput, RightRunIsSerial, RunKeepsIdsInOrder, SerialRunIsRight};
 
 /// Whatever bytes are read, they are the script of one list of statements at most.
 pub fn a_script_has_one_reading()
@@ -24,6 +24,11 @@ pub fn a_serial_run_is_right()
 /// A right run of the setup script alone is the run of its statements one after another.
 pub fn a_right_run_is_the_serial_one()
     ensures { RightRunIsSerial }
+{}
+
+/// Each input has a right output.
+pub fn each_input_has_a_right_output()
+    ensures { EachInputHasARightOutput }
 {}
 
 /// While the setup script is the only one, an input has one right output at most.

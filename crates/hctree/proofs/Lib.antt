@@ -1,7 +1,6 @@
 mod Absent
 mod Numbers
 mod Outcomes
-mod Printed
 mod Progress
 mod Right
 mod Selected

@@ -1,12 +1,13 @@
 -- From what was read to what the whole input is: it is a right output's input, or none.
 use Rattle.std.proofs.Common.{◌≡◌, ◌∙◌, ap, sym, subst, ℕ, ◌≤◌, List, [], ◌++◌, length, Option, Some, None, refl, arith, ⊎_elim, length-append}
 use Rattle.std.proofs.lemmas.List.{append-nil}
-use Rattle.hc_reply.specs.Reading.{IsTextOf}
+use Rattle.hc_reply.specs.Output.{output_text}
 use Rattle.hc_meaning.specs.declared.statement.Statement.{Statement}
 use Rattle.hc_meaning.specs.Input.{BreaksForm, IsInput, IsScript}
 use Rattle.hc_meaning.specs.Played.{played_alone}
 use Rattle.hc_meaning.specs.RightOutput.{IsRightOutput}
 use Rattle.hc_meaning.proofs.Alone.{setup_of, right-alone}
+use Rattle.hc_meaning.proofs.SerialOutput.{serial_prints}
 use Rattle.hctree.specs.declared.script.ScriptError.{ScriptError}
 use Rattle.hctree.specs.declared.script.ScriptError.TheVariants.{Unbuilt, NoMemory}
 use Rattle.hctree.specs.Causes.{BreaksFormIfTold, IsCauseOfNone, status_of_script}
@@ -20,17 +21,17 @@ read_whole left rest input reads within =
     (λ most. absurd (omega (arith, within, most)))
     reads.all_or_most
 
-right_alone : (input output : List ℕ) (statements : List Statement) → IsScript input statements → length input ≤ 16777216 → length statements ≤ 65535 → IsTextOf output (played_alone statements) → IsRightOutput input output
+right_alone : (input output : List ℕ) (statements : List Statement) → IsScript input statements → length input ≤ 16777216 → length statements ≤ 65535 → output ≡ output_text (played_alone statements) → IsRightOutput input output
 right_alone input output statements script bytes many is = record {
   scripts = setup_of statements;
   is_input = (statements, script, bytes, many, refl);
   transcripts = played_alone statements;
-  is_output = is;
+  is_output = (serial_prints input statements script many, is);
   is_run = right-alone statements;
 }
 
 module _ (input output : List ℕ) (statements : List Statement) (script : IsScript input statements) (bytes : length input ≤ 16777216) where
-  pub right_if_told : (left after : Option (List ℕ)) → ReadsAllOrMostIfTold left after input → length statements ≤ 65535 → IsTextOf output (played_alone statements) → IsRightOutputIfTold left output
+  pub right_if_told : (left after : Option (List ℕ)) → ReadsAllOrMostIfTold left after input → length statements ≤ 65535 → output ≡ output_text (played_alone statements) → IsRightOutputIfTold left output
   right_if_told None after reads many is = tt
   right_if_told (Some left) None reads many is = absurd reads
   right_if_told (Some left) (Some rest) reads many is =

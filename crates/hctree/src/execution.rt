@@ -1,6 +1,6 @@
 // A script's statements, run one after another, and the text of their replies.
 ghost use Rattle.std.specs.Prelude.{◌≡◌, ◌<◌, ◌^◌, length, IfOk};
-ghost use Rattle.hc_reply.specs.Reading.{IsTextOf};
+ghost use Rattle.hc_reply.specs.Output.{output_text};
 ghost use Rattle.hc_meaning.specs.Database.{empty_db};
 ghost use Rattle.hc_meaning.specs.Played.{played, played_alone};
 
@@ -15,7 +15,7 @@ use std::alloc::Global;
 /// The printed output of a script, which is the setup script, that of connection 0.
 pub fn run_script(alloc: Global, statements: &[Statement]) -> Result<Bytes, NoMemory>
     requires { length statements.now < 2 ^ 32 }
-    ensures { IfOk result (λ output. IsTextOf output (played_alone statements.now)) }
+    ensures { IfOk result (λ output. output ≡ output_text (played_alone statements.now)) }
 {
     let replies = replies_to(alloc, statements)?;
     if replies.is_empty() {
