@@ -12,13 +12,16 @@ pub record AgreeUpto (n : ℕ) (of now : ℕ → List Txn) : Type 0 where
   pub there : (c : ℕ) (key : List ℕ) (rec : Option (List ℕ)) → c ≤ n → PutAt of c key rec → PutAt now c key rec
   pub back : (c : ℕ) (key : List ℕ) (rec : Option (List ℕ)) → c ≤ n → PutAt now c key rec → PutAt of c key rec
 
+-- the agreement turned about
 turned : {n : ℕ} {of now : ℕ → List Txn} → AgreeUpto n of now → AgreeUpto n now of
 turned a = record { there = a.back; back = a.there }
 
+-- what a key has after a commit up to n is the same
 has_after-agree : (n : ℕ) (of now : ℕ → List Txn) → AgreeUpto n of now → (k : ℕ) (key : List ℕ) (rec : Option (List ℕ)) → k ≤ n → HasAfter of k key rec → HasAfter now k key rec
 has_after-agree n of now a k key rec within h =
     (h.0, h.1, a.there h.0 key rec (omega (arith, h.1)) h.2, λ d other above upto put. h.3 d other above upto (a.back d key other (omega arith) put))
 
+-- the cells of a part are the same after a commit up to n
 pub cells-agree : (n : ℕ) (of now : ℕ → List Txn) → AgreeUpto n of now → (k : ℕ) (part : Range) (cells : List Cell) → k ≤ n → AreCellsAfter of k part cells → AreCellsAfter now k part cells
 cells-agree n of now a k part cells within h = record {
   ascending = h.ascending;
@@ -28,6 +31,7 @@ cells-agree n of now a k part cells within h = record {
   );
 }
 
+-- a key that no commit put between two numbers, up to n + 1, none put there in the other
 pub none-agree : (n : ℕ) (of now : ℕ → List Txn) → AgreeUpto n of now → (snapshot number : ℕ) (key : List ℕ) → number ≤ n + 1 → NonePutBetween of snapshot number key → NonePutBetween now snapshot number key
 none-agree n of now a snapshot number key within none c rec above below put = none c rec above below (a.back c key rec (omega arith) put)
 

@@ -27,9 +27,11 @@ use Rattle.hc_core.proofs.OneAnswer.{first_one}
 use Rattle.hc_core.proofs.Ordered.{newest_sound, one_place}
 use Rattle.hc_core.proofs.Steps.{open_in_range, when_map}
 
+-- whether a number is 0
 known_zero : (n : ℕ) → Known (n ≡ 0)
 known_zero n = cases_eq n 0
 
+-- whether no transaction is open
 known_idle : (ts : List Txn) → Known (IsIdle ts)
 known_idle [] = inl tt
 known_idle (t ∷ ts) = known_true t.ended
@@ -42,6 +44,7 @@ when_is ts t rest P is running p = subst (λ (us : List Txn). WhenOpen us P) (sy
 met_of : ℕ → Txn → List ℕ → MetRecord
 met_of j u key = record { tid = record { 0 = u.id }; conn = j; ord = u.ord; key = key }
 
+-- what is so made of a transaction and a key names them
 names_of : (j : ℕ) (u : Txn) (key : List ℕ) → Names (met_of j u key) j u key
 unfolding met_of
 names_of j u key = (refl, refl, refl, refl)
@@ -62,6 +65,7 @@ module _ (m : Machine) (s : IsSound m) where
         λ there. (e.0, e.1, e.2, e.3, omega arith, there),
       )
 
+  -- whether a commit put a key
   known_put : (key : List ℕ) (c : ℕ) → c < length m.log → Known (HasPut key c)
   known_put key c within =
       let ws = (s.sound.entries c within).1.standing in
@@ -91,6 +95,7 @@ module _ (m : Machine) (s : IsSound m) where
   abbrev IsOpenWith : List ℕ → ℕ → Type 0
   IsOpenWith key j = WhenOpen (txns_of m j) (λ u. (u.place ≡ 0) × Stands u key)
 
+  -- there is such a connection, or none
   open_with : (key : List ℕ) → ((j : ℕ) × IsOpenWith key j) ⊎ ((j : ℕ) → IsOpenWith key j → ⊥)
   open_with key =
       ⊎_elim
@@ -114,6 +119,7 @@ module _ (m : Machine) (s : IsSound m) where
         ),
       )
 
+  -- a put of a key that does not stand put has an answer
   put_answer : (i : ℕ) (key : List ℕ) (t : Txn) (rest : List Txn) → txns_of m i ≡ t ∷ rest → (Stands t key → ⊥) → (outcome : Outcome) × IsPutAnswer m i key t outcome
   put_answer i key t rest is not_stands =
       ⊎_elim
@@ -202,6 +208,7 @@ module _ (m : Machine) (s : IsSound m) where
       let placed : u.place ≢ 0 = (λ none. omega (arith, none, between.1)) in
       (u.place - 1, omega (arith, between.1), omega (arith, between.1, between.2), (was_put key j u between.0 placed between.3).1)
 
+  -- a check has an answer
   check_answer : (part : Range) (t : Txn) → t.proposed - 1 ≤ length m.log → (outcome : Outcome) × IsCheckAnswer m part t outcome
   check_answer part t within = let least = least_from part t.snapshot (t.proposed - 1) within in by_least least.0 least.1
     where
@@ -240,6 +247,7 @@ module _ (m : Machine) (s : IsSound m) where
             (cells_next (txns_of m) part k before.0 e.1.standing (once_one e.1.standing (s.sound.each e.0 e.1 e.2).once) (puts_are k here) before.1),
       )
 
+  -- a decision has an answer
   decide_answer : (t : Txn) → (outcome : Outcome) × IsDecideAnswer m t outcome
   decide_answer t = ⊎_elim (λ same. (_, inl (same, refl))) (λ differ. (_, inr (differ, refl))) (cases_eq t.proposed (next_number m))
 
@@ -278,6 +286,7 @@ module _ (m : Machine) (s : IsSound m) where
       (λ i below. known_open (λ t. t.snapshot ≤ c) (txns_of m i)
       (λ t. ⊎_elim (λ above. inr (λ low. omega (arith, above, low))) (λ low. inl low) (cases_lt c t.snapshot))))
 
+  -- whether a key is forgettable
   known_forgettable : (key : List ℕ) → Known (IsForgettable (txns_of m) key)
   known_forgettable key =
       ⊎_elim
@@ -306,6 +315,7 @@ module _ (m : Machine) (s : IsSound m) where
           (known_true (holds_tombstone key put.1.standing)))
           (known_seen c))
 
+  -- whether all parts that were read lie in some parts
   known_includes : (parts : List Range) (reads : List PartRead) → Known ((read : PartRead) → Among read reads → Includes parts read.part)
   known_includes parts reads = known_each (λ (read : PartRead). Includes parts read.part) reads (λ read. known_included parts read.part)
 

@@ -55,6 +55,7 @@ put_enabled m i key rec r h may =
       λ stands. not_both_ways (holds_key key r.writes.items) (held_of r t key k (sym k.place ∙ may.1) stands) may.3,
     )) h
 
+-- who may not put has no put that is enabled
 pub put_disabled : (m : Machine) (i : ℕ) (key : List ℕ) (rec : Option (List ℕ)) (r : Running) → WhenOpen (txns_of m i) (Matches r) → (MayPut r key → ⊥)
     → IsEnabled m (Put i key rec) → ⊥
 put_disabled m i key rec r h not_may enabled =
@@ -70,7 +71,7 @@ put_disabled m i key rec r h not_may enabled =
     false_from true never = absurd (never refl)
     false_from false never = refl
 
--- a put that meets nothing, and one that meets another
+-- a put that meets nothing is done
 pub put_done : (m : Machine) (i : ℕ) (key : List ℕ) (rec : Option (List ℕ)) (r : Running) → WhenOpen (txns_of m i) (Matches r) → MayPut r key
     → IsFree (txns_of m) i r.snapshot key → Answers m (Put i key rec) Done
 put_done m i key rec r h may free = inl (
@@ -78,6 +79,7 @@ put_done m i key rec r h may free = inl (
   when_map (Matches r) _ (txns_of m i) (λ t k. inr (subst (λ n. IsFree (txns_of m) i n key) k.snapshot free, refl)) h,
 )
 
+-- a put that meets another is refused with its name
 pub put_refused : (m : Machine) (i : ℕ) (key : List ℕ) (rec : Option (List ℕ)) (r : Running) (met : MetRecord) → WhenOpen (txns_of m i) (Matches r) → MayPut r key
     → (j : ℕ) × (u : Txn) × IsInTheWay (txns_of m) i r.snapshot key j u × Names met j u key → Answers m (Put i key rec) (Met met)
 put_refused m i key rec r met h may way = inl (
@@ -92,7 +94,7 @@ pub own_closed : (m : Machine) (i : ℕ) (key : List ℕ) (r : Running) → When
 own_closed m i key r h may stands =
     when_never (Matches r) _ (txns_of m i) (λ t k q. not_both_ways (holds_key key r.writes.items) (held_of r t key k q.0 q.1) may.3) h stands
 
--- a check that finds nothing, and one that finds a commit between
+-- a check that finds nothing is done
 pub check_done : (m : Machine) (i : ℕ) (from : List ℕ) (upto : Option (List ℕ)) (r : Running) → WhenOpen (txns_of m i) (Matches r) → (r.proposed ≡ 0 → ⊥)
     → IsUnchanged (txns_of m) r.snapshot r.proposed (part_of from upto) → Answers m (Check i from upto) Done
 check_done m i from upto r h some free = inl (
@@ -105,6 +107,7 @@ check_done m i from upto r h some free = inl (
       )) h,
 )
 
+-- a check that finds a commit between is refused with its name
 pub check_refused : (m : Machine) (i : ℕ) (from : List ℕ) (upto : Option (List ℕ)) (r : Running) (met : MetRecord) → WhenOpen (txns_of m i) (Matches r)
     → (r.proposed ≡ 0 → ⊥) → (j : ℕ) × (u : Txn) × IsFound (txns_of m) r.snapshot r.proposed (part_of from upto) met.key j u × Names met j u met.key
     → Answers m (Check i from upto) (Met met)
@@ -151,6 +154,7 @@ seen_by_all m place sound all i t there running =
     (λ (low : t.snapshot ≤ place). absurd (all i (open_newest (txns_of m i) t (λ u. u.snapshot ≤ place) (sound.sound.in_order i) there running low)))
     (cases_lt place t.snapshot)
 
+-- and the other way round: where each sees it, none has a snapshot without it
 pub seen_by_each : (m : Machine) (place : ℕ) → ((i : ℕ) (t : Txn) → Among t (txns_of m i) → t.ended ≡ false → place + 1 ≤ t.snapshot)
     → (i : ℕ) → WhenOpen (txns_of m i) (λ t. t.snapshot ≤ place) → ⊥
 seen_by_each m place all i low =

@@ -20,12 +20,14 @@ module _ (size : ℕ) (log : ℕ → ℕ) (of : ℕ → List Txn) (i : ℕ) (t n
   abbrev now : ℕ → List Txn
   now = but of i (new ∷ rest)
 
+  -- it is decided now just where it was
   was_placed : new.place ≢ 0 → t.place ≢ 0
   was_placed placed none = placed (keeps.place ∙ none)
 
   is_placed : t.place ≢ 0 → new.place ≢ 0
   is_placed placed none = placed (sym keeps.place ∙ none)
 
+  -- the commits put what they put before, and nothing else
   put_there : (c : ℕ) (key : List ℕ) (rec : Option (List ℕ)) → PutAt of c key rec → PutAt now c key rec
   put_there c key rec put =
       each_old of i t rest is (λ j u. u.place ≡ c → StandsAs u key rec → PutAt now c key rec)
@@ -44,6 +46,7 @@ module _ (size : ℕ) (log : ℕ → ℕ) (of : ℕ → List Txn) (i : ℕ) (t n
   agree : AgreeUpto size of now
   agree = record { there = λ c key rec within. put_there c key rec; back = λ c key rec within. put_back c key rec }
 
+  -- whom a refusal named, it names still
   named : (j snapshot : ℕ) (r : Refusal) → NamesWriter of j snapshot r → NamesWriter now j snapshot r
   named j snapshot r n =
       each_old of i t rest is
@@ -84,6 +87,7 @@ module _ (size : ℕ) (log : ℕ → ℕ) (of : ℕ → List Txn) (i : ℕ) (t n
       (λ r among. named j v.snapshot r (h.refusals r among))
 
   module _ (new_sound : TxnIsSound size of i new) where
+    -- each of the old ones stays sound beside the new one
     old_carried : (j : ℕ) (v : Txn) → Among v (of j) → TxnIsSound size now j v
     old_carried j v there =
         let h = s.each j v there in

@@ -12,6 +12,7 @@ use Rattle.hc_core.proofs.Ordered.{placed_drew, distinct_with}
 abbrev closed : ℕ → ℕ → ℕ
 closed gap x = x - min 1 (x - gap)
 
+-- so moved down, what lies from 1 up to d lies up to d - 1, and different numbers stay different
 closed_within : (gap x d : ℕ) → x ≢ gap → 0 < gap → gap ≤ d → 0 < x → x ≤ d → (0 < closed gap x) × (closed gap x ≤ d - 1)
 closed_within gap x d other some within x_some x_within = (omega arith, omega arith)
 
@@ -30,6 +31,7 @@ no_more (suc n) d f different within =
     omega (arith, fewer, last.0, last.1)
 
 module _ (m : Machine) (s : IsSound m) where
+  -- an id that was drawn lies from 1 up to the last one drawn, and so does each id of the log
   id_within : (i : ℕ) (t : Txn) → Among t (txns_of m i) → t.id ≢ 0 → (0 < t.id) × (t.id ≤ m.drawn)
   id_within i t there drew = (omega arith, s.drawn i t there)
 

@@ -20,6 +20,7 @@ pub record Open (ts : List Txn) (P : Txn → Type 0) : Type 0 where
   pub running : t.ended ≡ false
   pub holds : P t
 
+-- where a fact holds of the open transaction, the newest is that one
 pub opened : (ts : List Txn) (P : Txn → Type 0) → WhenOpen ts P → Open ts P
 opened [] P none = elim none [ ]
 opened (t ∷ rest) P holds = record { t = t; rest = rest; is = refl; running = holds.0; holds = holds.1 }

@@ -48,6 +48,7 @@ first_head of key (h ∷ older) i t are first =
           first.2)
     ]
 
+-- a transaction is the first version just where the list of versions begins with it
 pub versions_begin : VersionsBeginWithTheFirst
 versions_begin of key versions i t are there = (
   λ first. first_head of key versions i t are first,

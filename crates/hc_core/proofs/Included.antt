@@ -19,11 +19,13 @@ part_below part key = record { lo = part.lo; hi = Some (earlier part.hi key) }
 abbrev part_from : Range → List ℕ → Range
 part_from part key = record { lo = higher part.lo key; hi = part.hi }
 
+-- a key below the earlier of an end and another key is below both
 under_earlier : (end : Option (List ℕ)) (other key : List ℕ) → is_below key (earlier end other) ≡ true → (is_under key end ≡ true) × (is_below key other ≡ true)
 under_earlier None other key under = (refl, under)
 under_earlier (Some end) other key under =
     (below_at_most key (lower end other) end under (lower_left end other), below_at_most key (lower end other) other under (lower_right end other))
 
+-- and the other way round
 earlier_under : (end : Option (List ℕ)) (other key : List ℕ) → is_under key end ≡ true → is_below key other ≡ true → is_below key (earlier end other) ≡ true
 earlier_under None other key under below = below
 earlier_under (Some end) other key under below = cond_both (is_below other end) other end (λ (k : List ℕ). is_below key k ≡ true) (λ _. below) (λ _. under)
@@ -33,6 +35,7 @@ abbrev IsRestIn : List Range → Range → Option (List ℕ) → Type 0
 IsRestIn ranges part None = Unit {0}
 IsRestIn ranges part (Some end) = Includes ranges (part_from part end)
 
+-- whether what is left of a range lies in ranges
 known_rest : (ranges : List Range) (part : Range) (end : Option (List ℕ)) → ((other : Range) → Known (Includes ranges other)) → Known (IsRestIn ranges part end)
 known_rest ranges part None known = inl tt
 known_rest ranges part (Some end) known = known (part_from part end)
@@ -53,6 +56,7 @@ rest_from lo end ranges part all = (
         ⊎_elim (λ here. absurd (true≢false (sym here.1 ∙ at_most_trans stop (higher part.lo stop) key (higher_right part.lo stop) inside.0))) (λ behind. behind)
         (all key (at_most_trans part.lo (higher part.lo stop) key (higher_left part.lo stop) inside.0, inside.1))
 
+-- and the other way round
 rest_into : (lo : List ℕ) (end : Option (List ℕ)) (ranges : List Range) (part : Range) → Includes ranges (part_below part lo) × IsRestIn ranges part end
     → Includes (record { lo = lo; hi = end } ∷ ranges) part
 rest_into lo end ranges part rest key inside =
@@ -66,6 +70,7 @@ rest_into lo end ranges part rest key inside =
     above (Some stop) behind at_least =
         ⊎_elim (λ under. inl (at_least, under)) (λ past. inr (behind key (higher_least part.lo stop key inside.0 past, inside.1))) (cases_Bool (is_below key stop))
 
+-- whether a range lies in ranges
 pub known_included : (ranges : List Range) (part : Range) → Known (Includes ranges part)
 known_included [] part =
     ⊎_elim

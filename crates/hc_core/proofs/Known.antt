@@ -10,24 +10,31 @@ use Rattle.hc_core.proofs.LogEntries.{holds_from, holds_into}
 abbrev pub Known : Type 0 → Type 0
 Known P = P ⊎ (P → ⊥)
 
+-- a fact is known where one that holds just when it does is known
 pub known_as : (P Q : Type 0) → (P → Q) → (Q → P) → Known P → Known Q
 known_as P Q there back known = ⊎_elim (λ p. inl (there p)) (λ never. inr (λ q. never (back q))) known
 
+-- whether both of two known facts hold
 pub known_both : (P Q : Type 0) → Known P → Known Q → Known (P × Q)
 known_both P Q p q = ⊎_elim (λ yes. ⊎_elim (λ also. inl (yes, also)) (λ never. inr (λ both. never both.1)) q) (λ never. inr (λ both. never both.0)) p
 
+-- whether one of two known facts holds
 pub known_either : (P Q : Type 0) → Known P → Known Q → Known (P ⊎ Q)
 known_either P Q p q = ⊎_elim (λ yes. inl (inl yes)) (λ no_p. ⊎_elim (λ yes. inl (inr yes)) (λ no_q. inr (λ either. ⊎_elim no_p no_q either)) q) p
 
+-- whether a known fact does not hold
 pub known_not : (P : Type 0) → Known P → Known (P → ⊥)
 known_not P p = ⊎_elim (λ yes. inr (λ never. never yes)) (λ never. inl never) p
 
+-- whether a number is below another
 pub known_below : (a b : ℕ) → Known (a < b)
 known_below a b = ⊎_elim (λ below. inl below) (λ above. inr (λ below. omega (arith, below, above))) (cases_lt a b)
 
+-- whether a truth value is true
 pub known_true : (b : Bool) → Known (b ≡ true)
 known_true b = ⊎_elim (λ is. inl is) (λ is. inr (λ other. true≢false (sym other ∙ is))) (cases_Bool b)
 
+-- whether a truth value is false
 pub known_false : (b : Bool) → Known (b ≡ false)
 known_false b = ⊎_elim (λ is. inr (λ other. true≢false (sym is ∙ other))) (λ is. inl is) (cases_Bool b)
 

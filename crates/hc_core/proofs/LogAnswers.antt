@@ -34,6 +34,7 @@ open_there : (P : Txn → Type 0) (ts : List Txn) → WhenOpen ts P → (t : Txn
 open_there P [] opened = absurd opened
 open_there P (t ∷ ts) opened = (t, inl refl, opened.0, opened.1)
 
+-- a place among the first entries of the log has the writes that it has in the whole log
 pub writes_of_front : (commits : List Commit) (upto place : ℕ) → place < upto → writes_at (take upto commits) place ≡ writes_at commits place
 writes_of_front commits zero place below = absurd (omega arith)
 writes_of_front [] (suc upto) place below = refl

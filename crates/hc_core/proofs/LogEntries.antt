@@ -31,6 +31,7 @@ holds_into key (w ∷ ws) held =
     (λ behind. let there = holds_into key ws behind in (there.0, inr there.1))
     (or_cases (bytes_eq w.key key) (holds_key key ws) held)
 
+-- what tests as none is none
 none_is : (rec : Option (List ℕ)) → is_none rec ≡ true → rec ≡ None
 none_is None is = refl
 none_is (Some rec) is = absurd (false≢true is)

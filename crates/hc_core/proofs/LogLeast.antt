@@ -111,6 +111,7 @@ least_is range commits =
 abbrev pub IsPutWithin : List Commit → ℕ → ℕ → List ℕ → Type 0
 IsPutWithin commits from upto key = (place : ℕ) × (from ≤ place) × (place < upto) × (place < length commits) × HoldsKey (writes_at commits place) key
 
+-- a key that a part of the log puts is put at a place of it
 pub put_into : (commits : List Commit) (from upto : ℕ) (key : List ℕ) → IsPutBy (drop from (take upto commits)) key → IsPutWithin commits from upto key
 put_into [] zero zero key put = absurd put
 put_into [] zero (suc upto) key put = absurd put
@@ -126,6 +127,7 @@ put_into (commit ∷ commits) zero (suc upto) key put =
 put_into (commit ∷ commits) (suc from) (suc upto) key put =
     let p = put_into commits from upto key put in (suc p.0, omega (arith, p.1), omega (arith, p.2), omega (arith, p.3), p.4)
 
+-- and the other way round
 pub put_from : (commits : List Commit) (from upto place : ℕ) (key : List ℕ) → from ≤ place → place < upto → place < length commits
     → HoldsKey (writes_at commits place) key → IsPutBy (drop from (take upto commits)) key
 put_from [] from upto place key at below within held = absurd (omega arith)

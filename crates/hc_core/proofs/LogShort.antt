@@ -6,6 +6,7 @@ use Rattle.hc_core.specs.Commits.{AreCommits, AreShort, AreShortWrites}
 use Rattle.hc_core.specs.declared.cells.Write.{Write}
 use Rattle.hc_core.specs.declared.commit.Commit.{Commit}
 
+-- writes of short keys alone are short
 short_writes : (ws : List Write) → ((key : List ℕ) → HoldsKey ws key → length key ≤ 463) → AreShortWrites ws
 short_writes [] each = tt
 short_writes (w ∷ ws) each = (each w.key (w.rec, inl refl), short_writes ws (λ key held. each key (held.0, inr held.1)))
@@ -26,6 +27,7 @@ short_take commits zero short = tt
 short_take [] (suc n) short = tt
 short_take (commit ∷ commits) (suc n) short = (short.0, short_take commits n short.1)
 
+-- and so are those of what stands behind its first n entries
 pub short_drop : (commits : List Commit) (n : ℕ) → AreShort commits → AreShort (drop n commits)
 short_drop commits zero short = short
 short_drop [] (suc n) short = tt

@@ -3,10 +3,12 @@ use Rattle.std.proofs.Common.{◌≡◌, ◌≢◌, inl, inr, ⊎_elim, refl, sy
 use Rattle.std.proofs.lemmas.Bool.{cases_eq, eq-eqb, ne_eqb}
 use Rattle.hc_core.specs.Lookup.{Among, but}
 
+-- at i, a function with the answer changed there gives the new one
 pub but-same : {A : Type 0} (f : ℕ → A) (i : ℕ) (x : A) → but f i x i ≡ x
 unfolding but
 but-same f i x = ap (λ b. cond b x (f i)) (eq-eqb i i refl)
 
+-- elsewhere it answers as before
 pub but-other : {A : Type 0} (f : ℕ → A) (i j : ℕ) (x : A) → i ≢ j → but f i x j ≡ f j
 unfolding but
 but-other f i j x differ = ap (λ b. cond b x (f j)) (ne_eqb i j differ)
@@ -27,12 +29,15 @@ each_but f i x P here others j =
 
 -- a function from connections to lists, with i's list changed to new and the rest
 module _ {A : Type 0} (of : ℕ → List A) (i : ℕ) (new : A) (rest : List A) where
+  -- the new one is in i's list
   pub new_here : Among new (but of i (new ∷ rest) i)
   new_here = subst (Among new) (sym (but-same of i (new ∷ rest))) (inl refl)
 
+  -- each of the rest is in i's list
   pub rest_here : (u : A) → Among u rest → Among u (but of i (new ∷ rest) i)
   rest_here u there = subst (Among u) (sym (but-same of i (new ∷ rest))) (inr there)
 
+  -- each of another connection's list is there still
   pub others_here : (j : ℕ) (u : A) → i ≢ j → Among u (of j) → Among u (but of i (new ∷ rest) j)
   others_here j u differ there = subst (Among u) (sym (but-other of i j (new ∷ rest) differ)) there
 
@@ -50,9 +55,11 @@ module _ {A : Type 0} (of : ℕ → List A) (i : ℕ) (new : A) (rest : List A) 
 
 -- where the rest is what stood behind t
 module _ {A : Type 0} (of : ℕ → List A) (i : ℕ) (t : A) (rest : List A) (is : of i ≡ t ∷ rest) where
+  -- t is in i's old list
   pub old_there : Among t (of i)
   old_there = subst (Among t) (sym is) (inl refl)
 
+  -- each of the rest is in i's old list
   pub rest_there : (u : A) → Among u rest → Among u (of i)
   rest_there u there = subst (Among u) (sym is) (inr there)
 
@@ -73,9 +80,11 @@ module _ {A : Type 0} (of : ℕ → List A) (i : ℕ) (t : A) (rest : List A) (i
 
 -- where the rest is all that stood
 module _ {A : Type 0} (of : ℕ → List A) (i : ℕ) (new : A) where
+  -- what holds of the new one and of each old one holds of each
   pub each_grown : (P : ℕ → A → Type 0) → P i new → ((j : ℕ) (u : A) → Among u (of j) → P j u) → (j : ℕ) (u : A) → Among u (but of i (new ∷ of i) j) → P j u
   each_grown P first others = each_new of i new (of i) P first (λ u there. others i u there) (λ j u differ there. others j u there)
 
+  -- each old one is there still
   pub grown_here : (j : ℕ) (u : A) → Among u (of j) → Among u (but of i (new ∷ of i) j)
   grown_here j u there =
       ⊎_elim (λ (same : i ≡ j). subst (λ k. (v : A) → Among v (of k) → Among v (but of i (new ∷ of i) k)) same (λ v v_there. rest_here of i new (of i) v v_there) u there)

@@ -19,6 +19,7 @@ read_more t part found key = (
   λ h. elim h [ inl r ↦ (r.0, inr (r.1), r.2) | inr x ↦ (record { part = part; cells = found.cells }, inl refl, x) ],
 )
 
+-- what is kept, with a log of reads grown by a part, matches the transaction after its read
 pub matches_read : (r : Running) (log : List Range) (part : Range) (found : Part) (t : Txn)
     → ((key : List ℕ) → InAny log key ↔ (InAny r.reads key ⊎ InRange part key)) → Matches r t
     → Matches (record r { reads = log }) (after_read part (Cells found) t)
@@ -36,6 +37,7 @@ matches_read r log part found t grown h = record {
   writes = h.writes;
 }
 
+-- what is kept, with a log of checks grown by a part, matches the transaction after its check
 pub matches_checked : (r : Running) (log : List Range) (part : Range) (t : Txn)
     → ((key : List ℕ) → InAny log key ↔ (InAny r.checked key ⊎ InRange part key)) → Matches r t
     → Matches (record r { checked = log }) (after_check part Done t)
@@ -84,6 +86,7 @@ matches_writes r kept t standing puts same h = record {
   writes = same;
 }
 
+-- what is kept, with a write more, matches the transaction after its put
 pub matches_put : (r : Running) (kept : Vec Write Global) (w : Write) (t : Txn) → kept.items ≡ r.writes.items ++ w ∷ [] → Matches r t
     → Matches (record r { writes = kept }) (after_put w.key w.rec Done t)
 matches_put r kept w t e h = matches_writes r kept t (w ∷ t.standing) (w ∷ t.puts)
@@ -94,6 +97,7 @@ matches_put r kept w t e h = matches_writes r kept t (w ∷ t.standing) (w ∷ t
     ))
     h
 
+-- what is kept, with a commit number, matches the transaction after its decision
 pub matches_decided : (r : Running) (kept : Vec Write Global) (number : ℕ) (t : Txn) → number ≢ 0 → Matches r t
     → Matches (record r { writes = kept; place = number }) (after_decide (Decided (record { 0 = number })) t)
 matches_decided r kept number t some h = record {
@@ -107,6 +111,7 @@ matches_decided r kept number t some h = record {
   writes = λ undecided. absurd (some undecided);
 }
 
+-- what is kept, without the writes of a key, matches the transaction after the key is taken out
 pub matches_unput : (r : Running) (kept : Vec Write Global) (key : List ℕ) (t : Txn) → kept.items ≡ without key r.writes.items → Matches r t
     → Matches (record r { writes = kept }) (after_unput key Done t)
 matches_unput r kept key t e h = matches_writes r kept t (without key t.standing) t.puts

@@ -26,6 +26,7 @@ module _ {size : ℕ} {log : ℕ → ℕ} {of : ℕ → List Txn} (s : AreSound 
       u (subst (λ k. Among u (of k)) same way.0.0) above)
       way.1
 
+  -- a refused put names another connection's transaction that put the key
   pub names_in_the_way : t.place ≡ 0 → (met : Met) (key : List ℕ) (j : ℕ) (u : Txn) → IsInTheWay of i t.snapshot key j u → Names met j u key
       → NamesWriter of i t.snapshot (record { by_check = false; met = met })
   names_in_the_way undecided met key j u way names = (
@@ -49,6 +50,7 @@ module _ {size : ℕ} {log : ℕ → ℕ} {of : ℕ → List Txn} (s : AreSound 
       (λ v behind after above below. omega (arith, above, after.place))
       u (subst (λ k. Among u (of k)) same between.0) between.1 between.2
 
+  -- a refused check names another connection's decided transaction that put the key
   pub names_found : (met : Met) (part : Range) (key : List ℕ) (j : ℕ) (u : Txn) → IsFound of t.snapshot t.proposed part key j u → Names met j u key
       → NamesWriter of i t.snapshot (record { by_check = true; met = met })
   names_found met part key j u found names =

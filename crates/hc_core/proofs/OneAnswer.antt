@@ -101,6 +101,7 @@ module _ {size : ℕ} {log : ℕ → ℕ} {of : ℕ → List Txn} (s : AreSound 
       (same, one_place s j k u v a.between.0 b.between.0 (λ none. omega (arith, none, a.between.1)) (omega arith))
 
 module _ (m : Machine) (s : IsSound m) where
+  -- a put has one answer
   put_one : (i : ℕ) (key : List ℕ) (t : Txn) (o p : Outcome) → IsPutAnswer m i key t o → IsPutAnswer m i key t p → o ≡ p
   put_one i key t o p a b =
       ⊎_elim
@@ -116,6 +117,7 @@ module _ (m : Machine) (s : IsSound m) where
           let f = free j u way.0.0 way.0.1 in
           ⊎_elim (λ other. ⊎_elim (λ placed. placed other.0) (λ own. other.1 own) f.0) (λ above. omega (arith, above, f.1)) way.1
 
+  -- a check has one answer
   check_one : (part : Range) (t : Txn) (o p : Outcome) → IsCheckAnswer m part t o → IsCheckAnswer m part t p → o ≡ p
   check_one part t o p a b =
       ⊎_elim
@@ -126,6 +128,7 @@ module _ (m : Machine) (s : IsSound m) where
       (λ x. ⊎_elim (λ y. absurd (x.0 y.1 y.2 y.3 y.4.inside y.4.between)) (λ y. x.1 ∙ sym y.1) b)
       a
 
+  -- a decision has one answer
   decide_one : (t : Txn) (o p : Outcome) → IsDecideAnswer m t o → IsDecideAnswer m t p → o ≡ p
   decide_one t o p a b =
       ⊎_elim
@@ -138,6 +141,7 @@ module _ (m : Machine) (s : IsSound m) where
   when_open_one [] P Q a b one = elim a [ ]
   when_open_one (t ∷ rest) P Q a b one = one t a.1 b.1
 
+  -- an event that is enabled has one answer
   answer_one : (event : Event) (o p : Outcome) → IsAnswer m event o → IsAnswer m event p → o ≡ p
   answer_one (Begin i) o p a b = a ∙ sym b
   answer_one (Draw i ord) o p a b = a ∙ sym b

@@ -47,6 +47,7 @@ runs_there m (event ∷ events) s =
     let behind = runs_there (after m event a.0) events (sound_with m event a.0 s a.1) in
     (entry_of event a.0 ∷ behind.0, behind.1, ap (λ (rest : List Event). event ∷ rest) behind.2, (a.1, behind.3))
 
+-- each list of events has a run of a new machine, the only one over them
 pub one_run : (conns : ℕ) (events : List Event) → (steps : List Entry) × (events_of steps ≡ events) × IsTheRun conns steps
 one_run conns events =
     let r = runs_there (start conns) events (start_sound conns) in (r.0, r.2, the_run conns r.0 (r.1, r.3))

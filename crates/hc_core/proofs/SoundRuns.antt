@@ -46,12 +46,14 @@ start_sound conns = record {
     none i t there = subst (Among t) (txns_of-start conns i) there
 
 module _ (m : Machine) (s : IsSound m) where
+  -- a sound machine is sound after a begin that is enabled
   begin_sound : (i : ℕ) → (i < length m.accounts) × IsIdle (txns_of m i) → IsSound (after m (Begin i) (Began (record { 0 = length m.log })))
   begin_sound i enabled =
       entered_sound m i (Begin i) (Began (record { 0 = length m.log })) m.drawn m.log (begun_at (length m.log) ∷ txns_of m i) enabled.0 refl
       (kept_begin s.sound i enabled.1)
       (each_grown (txns_of m) i (begun_at (length m.log)) (λ j u. u.id ≤ m.drawn) (omega arith) s.drawn)
 
+  -- and after a draw
   draw_sound : (i ord : ℕ) → IsEnabled m (Draw i ord) → IsSound (after m (Draw i ord) (Drew (record { 0 = m.drawn + 1 })))
   draw_sound i ord enabled =
       let o = opened (txns_of m i) (λ t. (t.id ≡ 0) × (0 < ord) × ((u : Txn) → Among u (txns_of m i) → u.ord < ord) × (m.drawn < 2 ^ 32 - 1)) enabled in
@@ -65,6 +67,7 @@ module _ (m : Machine) (s : IsSound m) where
   one_changed i event outcome t new rest is now sound same =
       changed_sound m i event outcome m.drawn m.log t new rest is now sound (rw same (s.drawn i t (newest_there s.sound i t rest is))) s.drawn
 
+  -- and after a read
   read_sound : (i : ℕ) (from : List ℕ) (upto : Option (List ℕ)) (outcome : Outcome) → IsEnabled m (Read i from upto) → IsAnswer m (Read i from upto) outcome → IsSound (after m (Read i from upto) outcome)
   read_sound i from upto outcome enabled answer =
       let o = opened (txns_of m i) (λ t. t.id ≡ 0) enabled in
@@ -73,6 +76,7 @@ module _ (m : Machine) (s : IsSound m) where
       (one_changed i (Read i from upto) (Cells (record { cells = a.0 })) o.t (record o.t { reads = record { part = part_of from upto; cells = a.0 } ∷ o.t.reads }) o.rest o.is refl
       (kept_read s.sound i o.t o.rest o.is (part_of from upto) a.0 o.holds a.1) refl)
 
+  -- and after a put
   put_sound : (i : ℕ) (key : List ℕ) (rec : Option (List ℕ)) (outcome : Outcome) → IsEnabled m (Put i key rec) → IsAnswer m (Put i key rec) outcome → IsSound (after m (Put i key rec) outcome)
   put_sound i key rec outcome enabled answer =
       let o = opened (txns_of m i) (λ t. (t.id ≢ 0) × (t.place ≡ 0) × (t.proposed ≡ 0) × (Stands t key → ⊥)) enabled in
@@ -85,12 +89,14 @@ module _ (m : Machine) (s : IsSound m) where
       (kept_put s.sound i o.t o.rest o.is key rec o.running o.holds.0 o.holds.1 o.holds.3 free.0) refl))
       (of_newest (txns_of m i) o.t o.rest (λ t. IsPutAnswer m i key t outcome) o.is answer)
 
+  -- and after a proposal
   propose_sound : (i : ℕ) → IsEnabled m (Propose i) → IsSound (after m (Propose i) (Proposed (record { 0 = next_number m })))
   propose_sound i enabled =
       let o = opened (txns_of m i) (λ t. (t.id ≢ 0) × (t.place ≡ 0)) enabled in
       one_changed i (Propose i) (Proposed (record { 0 = next_number m })) o.t (record o.t { proposed = next_number m; checked = [] }) o.rest o.is refl
       (kept_propose s.sound i o.t o.rest o.is (next_number m) o.holds.0 o.holds.1 (omega arith)) refl
 
+  -- and after a check
   check_sound : (i : ℕ) (from : List ℕ) (upto : Option (List ℕ)) (outcome : Outcome) → IsEnabled m (Check i from upto) → IsAnswer m (Check i from upto) outcome → IsSound (after m (Check i from upto) outcome)
   check_sound i from upto outcome enabled answer =
       let o = opened (txns_of m i) (λ t. t.proposed ≢ 0) enabled in
@@ -103,6 +109,7 @@ module _ (m : Machine) (s : IsSound m) where
       (kept_check s.sound i o.t o.rest o.is (part_of from upto) unchanged.0) refl))
       (of_newest (txns_of m i) o.t o.rest (λ t. IsCheckAnswer m (part_of from upto) t outcome) o.is answer)
 
+  -- and after a decision
   decide_sound : (i : ℕ) (outcome : Outcome) → IsEnabled m (Decide i) → IsAnswer m (Decide i) outcome → IsSound (after m (Decide i) outcome)
   decide_sound i outcome enabled answer =
       let o = opened (txns_of m i) (λ t. (t.proposed ≢ 0) × (t.place ≡ 0) × ((read : PartRead) → Among read t.reads → Includes t.checked read.part)) enabled in
@@ -123,12 +130,14 @@ module _ (m : Machine) (s : IsSound m) where
           (kept_decide s.sound i t rest is (λ none. proposes ((newest_sound s.sound i t rest is).undrawn none).3) undecided next included))
           (s.drawn i t (newest_there s.sound i t rest is)) s.drawn))
 
+  -- and after a key is taken out
   unput_sound : (i : ℕ) (key : List ℕ) → IsEnabled m (Unput i key) → IsSound (after m (Unput i key) Done)
   unput_sound i key enabled =
       let o = opened (txns_of m i) (λ t. Stands t key × (t.place ≡ 0)) enabled in
       one_changed i (Unput i key) Done o.t (record o.t { standing = without key o.t.standing }) o.rest o.is refl
       (kept_unput s.sound i o.t o.rest o.is key o.holds.1) refl
 
+  -- and after an end
   end_sound : (i : ℕ) → IsEnabled m (End i) → IsSound (after m (End i) Done)
   end_sound i enabled =
       let o = opened (txns_of m i) (λ t. (t.place ≢ 0) ⊎ (t.standing ≡ [])) enabled in

@@ -31,6 +31,7 @@ among_filter test x (w ∷ ws) there = by_test (test w) (λ behind. among_filter
     by_test true later there = ⊎_elim (λ same. inl same) (λ behind. inr (later behind)) there
     by_test false later there = inr (later there)
 
+-- a key that is absent is absent from what a filter leaves
 absent_filter : (test : Write → Bool) (key : List ℕ) (ws : List Write) → IsAbsent key ws → IsAbsent key (filter test ws)
 absent_filter test key [] none = tt
 absent_filter test key (w ∷ ws) none = by_test (test w) (absent_filter test key ws none.1)
@@ -39,6 +40,7 @@ absent_filter test key (w ∷ ws) none = by_test (test w) (absent_filter test ke
     by_test true later = (none.0, later)
     by_test false later = later
 
+-- where each key is written once, a filter leaves it so
 pub once_filter : (test : Write → Bool) (ws : List Write) → HasEachOnce ws → HasEachOnce (filter test ws)
 once_filter test [] once = tt
 once_filter test (w ∷ ws) once = by_test (test w) (once_filter test ws once.1)
@@ -51,9 +53,11 @@ once_filter test (w ∷ ws) once = by_test (test w) (once_filter test ws once.1)
 pub among_without : (key : List ℕ) (x : Write) (ws : List Write) → Among x (without key ws) → Among x ws
 among_without key x ws there = among_filter (λ w. not (bytes_eq w.key key)) x ws there
 
+-- a key that stands put when another was taken out stood put before
 pub stands_without : (key : List ℕ) (ws : List Write) (other : List ℕ) → StandsIn other (without key ws) → StandsIn other ws
 stands_without key ws other stands = (stands.0, among_without key (record { key = other; rec = stands.0 }) ws stands.1)
 
+-- where each key is written once, it is so when a key was taken out
 pub once_without : (key : List ℕ) (ws : List Write) → HasEachOnce ws → HasEachOnce (without key ws)
 once_without key ws once = once_filter (λ w. not (bytes_eq w.key key)) ws once
 

@@ -85,6 +85,7 @@ open_in_range m i P h = let o = opened (txns_of m i) P h in in_range m i o.t o.r
 pub holds_there : (writes others : List Write) (key : List ℕ) → HaveSameWrites writes others → HoldsKey writes key → HoldsKey others key
 holds_there writes others key same h = (h.0, (same (record { key = key; rec = h.0 })).0 h.1)
 
+-- and the other way round
 pub holds_back : (writes others : List Write) (key : List ℕ) → HaveSameWrites writes others → HoldsKey others key → HoldsKey writes key
 holds_back writes others key same h = (h.0, (same (record { key = key; rec = h.0 })).1 h.1)
 
@@ -93,6 +94,7 @@ pub nothing_stands : (writes others : List Write) → HaveSameWrites writes othe
 nothing_stands writes [] same none = refl
 nothing_stands writes (w ∷ others) same none = absurd (subst (λ ws. Among w ws) none ((same w).1 (inl refl)))
 
+-- and the other way round
 pub nothing_back : (writes others : List Write) → HaveSameWrites writes others → others ≡ [] → writes ≡ []
 nothing_back [] others same none = refl
 nothing_back (w ∷ writes) others same none = absurd (subst (λ ws. Among w ws) none ((same w).0 (inl refl)))
@@ -107,6 +109,7 @@ stands_of r t key h none held =
     let undecided = sym h.place ∙ none in
     (holds_there r.writes.items t.standing key (h.writes undecided) (holds_into key r.writes.items held), undecided)
 
+-- a key that stands put in an undecided transaction is among the writes that are kept
 pub held_of : (r : Running) (t : Txn) (key : List ℕ) → Matches r t → t.place ≡ 0 → Stands t key → holds_key key r.writes.items ≡ true
 held_of r t key h undecided stands = holds_from key r.writes.items (holds_back r.writes.items t.standing key (h.writes undecided) stands)
 

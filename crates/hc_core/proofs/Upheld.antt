@@ -43,6 +43,7 @@ commit_changed of i t new rest c commit is settles some h =
     (u, subst (λ k. Among u (but of i (new ∷ rest) k)) (sym conn) (others_here of i new rest j u differ there), place, id, ord, writes))
     commit.conn h.0 h.1 refl h.2 h.3 h.4 h.5
 
+-- the entries of the log stay so where the newest transaction of a connection changes
 pub commits_changed : (of : ℕ → List Txn) (i : ℕ) (t new : Txn) (rest : List Txn) (c : ℕ) (commits : List Commit) → of i ≡ t ∷ rest → Settles t new → 0 < c
     → AreCommits of c commits → AreCommits (but of i (new ∷ rest)) c commits
 commits_changed of i t new rest c [] is settles some h = tt
@@ -72,6 +73,7 @@ module _ (drawn : ℕ) (commits : List Commit) (accounts : List (List Entry)) (i
   abbrev m : Machine
   m = machine_of drawn commits accounts
 
+  -- the accounts with the new one in its place are those after the entry
   pub accounts_entered : slice_set accounts i account ≡ (entered m i same outcome).accounts
   accounts_entered = rw (is, form) refl
 

@@ -28,6 +28,7 @@ abbrev EachIn : {A : Type 0} → (A → Type 0) → List A → Type 0
 EachIn P [] = Unit {0}
 EachIn P (x ∷ xs) = P x × EachIn P xs
 
+-- what holds of each of a list holds of one that is in it
 each_in : {A : Type 0} (P : A → Type 0) (xs : List A) → EachIn P xs → (y : A) → Among y xs → P y
 each_in P [] all y there = absurd there
 each_in P (x ∷ xs) all y there = ⊎_elim (λ same. subst P (sym same) all.0) (λ behind. each_in P xs all.1 y behind) there
@@ -37,6 +38,7 @@ abbrev EachOf : (ℕ → Txn → Type 0) → List (List Entry) → Type 0
 EachOf P [] = Unit {0}
 EachOf P (account ∷ accounts) = EachIn (P 0) (txns account) × EachOf (λ j. P (suc j)) accounts
 
+-- what holds of each transaction of the accounts holds of one that is in one of them
 each_of : (P : ℕ → Txn → Type 0) (accounts : List (List Entry)) → EachOf P accounts → (j : ℕ) (u : Txn) → Among u (txns (get_or accounts j [])) → P j u
 each_of P [] all j u there = absurd there
 each_of P (account ∷ accounts) all zero u there = each_in (P 0) (txns account) all.0 u there
@@ -66,6 +68,7 @@ part_b = part_of key_b (Some key_c)
 abbrev none_in : Range → PartRead
 none_in part = record { part = part; cells = [] }
 
+-- the key a lies in the part that begins with it
 a_inside : InRange part_a key_a
 unfolding is_below
 a_inside = (refl, refl)
@@ -94,9 +97,11 @@ at conns steps n = after_all (start conns) (take n steps)
 ords_below : (m : Machine) (i : ℕ) → EachIn (λ (u : Txn). u.ord < 1) (txns_of m i) → (u : Txn) → Among u (txns_of m i) → u.ord < 1
 ords_below m i all = each_in (λ (u : Txn). u.ord < 1) (txns_of m i) all
 
+-- a number after another is not 0
 some : (n : ℕ) → n + 1 ≢ 0
 some n none = omega (arith, none)
 
+-- one commit: its steps run
 one_commit_runs : Runs (start 2) one_commit (at 2 one_commit 7)
 one_commit_runs = (
   inr (λ enabled. enabled, refl),
@@ -121,9 +126,11 @@ one_commit_runs = (
   ),
 )
 
+-- one commit: the run is the only one over its events
 pub one_commit_is : IsTheRun 2 one_commit
 one_commit_is = the_run 2 one_commit (at 2 one_commit 7, one_commit_runs)
 
+-- write skew: its steps run
 write_skew_runs : Runs (start 2) write_skew (at 2 write_skew 17)
 write_skew_runs = (
   inl ((omega arith, tt), refl),
@@ -210,9 +217,11 @@ write_skew_runs = (
   ),
 )
 
+-- write skew: the run is the only one over its events
 pub write_skew_is : IsTheRun 2 write_skew
 write_skew_is = the_run 2 write_skew (at 2 write_skew 17, write_skew_runs)
 
+-- a version under a newer one: its steps run
 under_a_newer_one_runs : Runs (start 3) under_a_newer_one (at 3 under_a_newer_one 18)
 under_a_newer_one_runs = (
   inl ((omega arith, tt), refl),
@@ -313,5 +322,6 @@ under_a_newer_one_runs = (
   ),
 )
 
+-- a version under a newer one: the run is the only one over its events
 pub under_a_newer_one_is : IsTheRun 3 under_a_newer_one
 under_a_newer_one_is = the_run 3 under_a_newer_one (at 3 under_a_newer_one 18, under_a_newer_one_runs)

@@ -21,6 +21,7 @@ module _ {size : ℕ} {log : ℕ → ℕ} {of : ℕ → List Txn} (s : AreSound 
   abbrev now : ℕ → List Txn
   now = but of i (new ∷ of i)
 
+  -- the commits put what they put before, and nothing else
   put_there : (c : ℕ) (key : List ℕ) (rec : Option (List ℕ)) → PutAt of c key rec → PutAt now c key rec
   put_there c key rec put = (put.0, put.1, grown_here of i new put.0 put.1 put.2, put.3, put.4, put.5)
 
@@ -34,6 +35,7 @@ module _ {size : ℕ} {log : ℕ → ℕ} {of : ℕ → List Txn} (s : AreSound 
   agree : AgreeUpto size of now
   agree = record { there = λ c key rec within. put_there c key rec; back = λ c key rec within. put_back c key rec }
 
+  -- a transaction that was sound stays so
   carried : (j : ℕ) (v : Txn) → TxnIsSound size of j v → TxnIsSound size now j v
   carried j v h = sound-agree size size of now agree (omega arith) j v h
       (λ undecided k u key among u_undecided stands u_stands.
@@ -48,6 +50,7 @@ module _ {size : ℕ} {log : ℕ → ℕ} {of : ℕ → List Txn} (s : AreSound 
       k u among u_stands)
       (λ r among. let n = h.refusals r among in (n.0, n.1, grown_here of i new n.0 n.1 n.2, n.3, n.4, n.5, n.6, n.7, n.8, n.9))
 
+  -- the new transaction is sound
   new_sound : TxnIsSound size now i new
   new_sound = record {
     snapshot = omega arith;
@@ -67,6 +70,7 @@ module _ {size : ℕ} {log : ℕ → ℕ} {of : ℕ → List Txn} (s : AreSound 
     refusals = λ r among. absurd among;
   }
 
+  -- the new transaction comes after each of its connection
   comes_after : ComesAfterEach new (of i)
   comes_after = each_after new (of i) (λ u there. record {
     ended = all_ended (of i) (s.in_order i) idle u there;
@@ -76,6 +80,7 @@ module _ {size : ℕ} {log : ℕ → ℕ} {of : ℕ → List Txn} (s : AreSound 
     place = ⊎_elim (λ (none : u.place ≡ 0). omega arith) (λ placed. ((s.each i u there).place placed).1) (cases_eq u.place 0);
   })
 
+  -- where no transaction of a connection is open, a new one leaves all sound
   pub kept_begin : AreSound size log (but of i (begun_at size ∷ of i))
   kept_begin = record {
     distinct = s.distinct;

@@ -14,6 +14,7 @@ unchanged_none : (of : ℕ → List Txn) (snapshot number : ℕ) (part : Range) 
 unchanged_none of snapshot number part unchanged key inside c rec above below put =
     unchanged key put.0 put.1 inside (put.2, subst (λ n. snapshot < n) (sym put.3) above, subst (λ n. n < number) (sym put.3) below, (rec, put.5))
 
+-- a check that found nothing is noted, and all stays sound
 pub kept_check : {size : ℕ} {log : ℕ → ℕ} {of : ℕ → List Txn} (s : AreSound size log of) (i : ℕ) (t : Txn) (rest : List Txn) (is : of i ≡ t ∷ rest)
     (part : Range) → IsUnchanged of t.snapshot t.proposed part
     → AreSound size log (but of i (record t { checked = part ∷ t.checked; unchanged = record { part = part; number = t.proposed } ∷ t.unchanged } ∷ rest))

@@ -33,6 +33,7 @@ module _ {size : ℕ} {log : ℕ → ℕ} {of : ℕ → List Txn} (s : AreSound 
   h : TxnIsSound size of i t
   h = s.each i t t_there
 
+  -- the commits put what they put before, and those up to the old size nothing else
   put_there : (c : ℕ) (key : List ℕ) (rec : Option (List ℕ)) → PutAt of c key rec → PutAt now c key rec
   put_there c key rec put =
       each_old of i t rest is (λ j u. u.place ≡ c → StandsAs u key rec → PutAt now c key rec)
@@ -52,6 +53,7 @@ module _ {size : ℕ} {log : ℕ → ℕ} {of : ℕ → List Txn} (s : AreSound 
   agree : AgreeUpto size of now
   agree = record { there = λ c key rec within. put_there c key rec; back = put_back }
 
+  -- whom a refusal named, it names still
   named : (j snapshot : ℕ) (r : Refusal) → snapshot ≤ size → NamesWriter of j snapshot r → NamesWriter now j snapshot r
   named j snapshot r within n =
       each_old of i t rest is
@@ -90,6 +92,7 @@ module _ {size : ℕ} {log : ℕ → ℕ} {of : ℕ → List Txn} (s : AreSound 
       let low : put.1.place ≤ t.snapshot = h.newest undecided put.0 put.1 key put.2 stands (rec, put.5) in
       omega (arith, low, put.3, above)
 
+  -- the decided transaction is sound with the longer log
   new_sound : TxnIsSound (size + 1) now i new
   new_sound = record {
     snapshot = omega (arith, h.snapshot);
@@ -114,6 +117,7 @@ module _ {size : ℕ} {log : ℕ → ℕ} {of : ℕ → List Txn} (s : AreSound 
   was = each_new of i new rest (λ j u. (v : Txn) × Among v (of j) × (u.id ≡ v.id))
       (t, t_there, refl) (λ u there. (u, rest_there of i t rest is u there, refl)) (λ j u differ there. (u, there, refl))
 
+  -- a decided transaction has the id of the log at its place
   decided_now : (j : ℕ) (u : Txn) (c : ℕ) → Among u (now j) → u.place ≡ c + 1 → but log size t.id c ≡ u.id
   decided_now j u c among =
       each_new of i new rest (λ j u. u.place ≡ c + 1 → but log size t.id c ≡ u.id)
@@ -127,6 +131,7 @@ module _ {size : ℕ} {log : ℕ → ℕ} {of : ℕ → List Txn} (s : AreSound 
           let within : v.place ≤ size = ((s.each k v there).place (λ none. omega (arith, none, at))).1 in
           but-other log size c t.id (λ last. omega (arith, last, within, at)) ∙ s.decided k v c there at
 
+  -- each entry of the longer log has its transaction
   entries_now : (c : ℕ) → c < size + 1 → (j : ℕ) × (u : Txn) × Among u (now j) × (u.place ≡ c + 1)
   entries_now c below =
       ⊎_elim

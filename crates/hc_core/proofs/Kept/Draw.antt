@@ -8,6 +8,7 @@ use Rattle.hc_core.proofs.Changed.{kept_changed}
 use Rattle.hc_core.proofs.Ordered.{newest_sound, newest_after, after_each, each_after}
 use Rattle.hc_core.proofs.Standing.{nothing_put}
 
+-- a transaction draws an id that no other has and an ordinal above all, and all stays sound
 pub kept_draw : {size : ℕ} {log : ℕ → ℕ} {of : ℕ → List Txn} (s : AreSound size log of) (i : ℕ) (t : Txn) (rest : List Txn) (is : of i ≡ t ∷ rest)
     (id ord : ℕ) → t.id ≡ 0 → id ≢ 0 → ((j : ℕ) (u : Txn) → Among u (of j) → u.id ≢ id) → ((u : Txn) → Among u (of i) → u.ord < ord)
     → AreSound size log (but of i (record t { id = id; ord = ord } ∷ rest))

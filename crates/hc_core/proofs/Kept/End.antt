@@ -6,6 +6,7 @@ use Rattle.hc_core.specs.Sound.{AreSound}
 use Rattle.hc_core.proofs.Ordered.{newest_sound}
 use Rattle.hc_core.proofs.Kept.Same.{kept_same}
 
+-- the newest transaction, decided or with nothing that stands, ends, and all stays sound
 pub kept_end : {size : ℕ} {log : ℕ → ℕ} {of : ℕ → List Txn} (s : AreSound size log of) (i : ℕ) (t : Txn) (rest : List Txn) (is : of i ≡ t ∷ rest)
     → (t.place ≢ 0) ⊎ (t.standing ≡ []) → AreSound size log (but of i (record t { ended = true } ∷ rest))
 kept_end {size} {log} {of} s i t rest is may_end =

@@ -6,6 +6,7 @@ use Rattle.hc_core.specs.Sound.{AreSound}
 use Rattle.hc_core.proofs.Ordered.{newest_sound}
 use Rattle.hc_core.proofs.Kept.Same.{kept_same}
 
+-- an undecided transaction loses its proposal and its checks, and all stays sound
 pub kept_lost : {size : ℕ} {log : ℕ → ℕ} {of : ℕ → List Txn} (s : AreSound size log of) (i : ℕ) (t : Txn) (rest : List Txn) (is : of i ≡ t ∷ rest)
     → t.place ≡ 0 → AreSound size log (but of i (record t { proposed = 0; checked = [] } ∷ rest))
 kept_lost {size} {log} {of} s i t rest is undecided =

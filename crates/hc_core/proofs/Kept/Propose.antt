@@ -6,6 +6,7 @@ use Rattle.hc_core.specs.Sound.{AreSound}
 use Rattle.hc_core.proofs.Ordered.{newest_sound}
 use Rattle.hc_core.proofs.Kept.Same.{kept_same}
 
+-- an undecided transaction proposes a number up to the next, without checks, and all stays sound
 pub kept_propose : {size : ℕ} {log : ℕ → ℕ} {of : ℕ → List Txn} (s : AreSound size log of) (i : ℕ) (t : Txn) (rest : List Txn) (is : of i ≡ t ∷ rest)
     (number : ℕ) → t.id ≢ 0 → t.place ≡ 0 → number ≤ size + 1
     → AreSound size log (but of i (record t { proposed = number; checked = [] } ∷ rest))

@@ -8,6 +8,7 @@ use Rattle.hc_core.proofs.Ordered.{newest_sound}
 use Rattle.hc_core.proofs.Standing.{stands_front, absent}
 use Rattle.hc_core.proofs.Kept.Same.{kept_same}
 
+-- an open, undecided transaction puts a key that is free for it and does not stand put, and all stays sound
 pub kept_put : {size : ℕ} {log : ℕ → ℕ} {of : ℕ → List Txn} (s : AreSound size log of) (i : ℕ) (t : Txn) (rest : List Txn) (is : of i ≡ t ∷ rest)
     (key : List ℕ) (rec : Option (List ℕ)) → t.ended ≡ false → t.id ≢ 0 → t.place ≡ 0 → (Stands t key → ⊥)
     → IsFree of i t.snapshot key

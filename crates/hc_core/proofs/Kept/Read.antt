@@ -9,6 +9,7 @@ use Rattle.hc_core.specs.Sound.{AreSound}
 use Rattle.hc_core.proofs.Ordered.{newest_sound}
 use Rattle.hc_core.proofs.Kept.Same.{kept_same}
 
+-- a transaction without an id notes the cells that it read, and all stays sound
 pub kept_read : {size : ℕ} {log : ℕ → ℕ} {of : ℕ → List Txn} (s : AreSound size log of) (i : ℕ) (t : Txn) (rest : List Txn) (is : of i ≡ t ∷ rest)
     (part : Range) (cells : List Cell) → t.id ≡ 0 → AreCellsAfter of t.snapshot part cells
     → AreSound size log (but of i (record t { reads = record { part = part; cells = cells } ∷ t.reads } ∷ rest))

@@ -6,6 +6,7 @@ use Rattle.hc_core.specs.Sound.{AreSound, NamesWriter}
 use Rattle.hc_core.proofs.Ordered.{newest_sound}
 use Rattle.hc_core.proofs.Kept.Same.{kept_same}
 
+-- a refusal that names another connection's transaction is noted, and all stays sound
 pub kept_refused : {size : ℕ} {log : ℕ → ℕ} {of : ℕ → List Txn} (s : AreSound size log of) (i : ℕ) (t : Txn) (rest : List Txn) (is : of i ≡ t ∷ rest)
     (refusal : Refusal) → NamesWriter of i t.snapshot refusal
     → AreSound size log (but of i (record t { refusals = refusal ∷ t.refusals } ∷ rest))

@@ -12,6 +12,7 @@ pub record IsSame (t new : Txn) : Type 0 where
   pub ord : new.ord ≡ t.ord
   pub snapshot : new.snapshot ≡ t.snapshot
 
+-- the same transaction, changed, comes after the same ones
 pub same_after : (t new : Txn) (rest : List Txn) → IsSame t new → ComesAfterEach t rest → ComesAfterEach new rest
 same_after t new [] same after = tt
 same_after t new (u ∷ rest) same after = (
@@ -25,6 +26,7 @@ same_after t new (u ∷ rest) same after = (
   same_after t new rest same after.1,
 )
 
+-- the newest transaction changes but stays the same one, sound, and all stays sound
 pub kept_same : {size : ℕ} {log : ℕ → ℕ} {of : ℕ → List Txn} (s : AreSound size log of) (i : ℕ) (t new : Txn) (rest : List Txn) (is : of i ≡ t ∷ rest)
     → Keeps t new → IsSame t new → TxnIsSound size of i new → AreSound size log (but of i (new ∷ rest))
 kept_same {size} {log} {of} s i t new rest is keeps same sound =

@@ -7,6 +7,7 @@ use Rattle.hc_core.proofs.Ordered.{newest_sound}
 use Rattle.hc_core.proofs.Standing.{among_without, stands_without, once_without}
 use Rattle.hc_core.proofs.Kept.Same.{kept_same}
 
+-- a key of an undecided transaction is taken out, and all stays sound
 pub kept_unput : {size : ℕ} {log : ℕ → ℕ} {of : ℕ → List Txn} (s : AreSound size log of) (i : ℕ) (t : Txn) (rest : List Txn) (is : of i ≡ t ∷ rest)
     (key : List ℕ) → t.place ≡ 0 → AreSound size log (but of i (record t { standing = without key t.standing } ∷ rest))
 kept_unput {size} {log} {of} s i t rest is key undecided =
