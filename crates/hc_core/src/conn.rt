@@ -1,6 +1,6 @@
 // A connection of the machine: its account, and what is kept of its open transaction.
-ghost use Rattle.std.specs.Prelude.{◌≡◌, ◌≢◌, ℕ, ◌<◌, [], ◌∷◌, MatchOption, IfOk, OnOk, OnErr};
-ghost use Rattle.hc_core.specs.Account.{IsIdle, WhenOpen, part_of, txns};
+ghost use Rattle.std.specs.Prelude.{◌≡◌, ◌<◌, [], ◌∷◌, MatchOption, IfOk, OnErr};
+ghost use Rattle.hc_core.specs.Account.{IsIdle, WhenOpen, txns};
 ghost use Rattle.hc_core.specs.Diary.{entry_of};
 ghost use Rattle.hc_core.specs.Running.{HaveSameWrites, IsPutOrCheck, Matches, greatest_ord};
 ghost use Rattle.hc_core.specs.declared.event.Event.TheVariants.{Begin, Draw, Read, Put, Propose, Check, Decide, Unput, End};

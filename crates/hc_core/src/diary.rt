@@ -1,5 +1,5 @@
 // A connection's account, which contracts see and the program does not keep.
-ghost use Rattle.std.specs.Prelude.{◌≡◌, ℕ, ◌<◌, List, [], ◌∷◌, IfOk};
+ghost use Rattle.std.specs.Prelude.{◌≡◌, ◌<◌, List, [], ◌∷◌, IfOk};
 ghost use Rattle.hc_core.specs.Diary.{noted, entry_of};
 ghost use Rattle.hc_core.specs.declared.account.Entry.{Entry};
 ghost use Rattle.hc_core.specs.declared.event.Event.TheVariants.{Begin};

@@ -1,9 +1,8 @@
-ghost use Rattle.std.specs.Prelude.{◌≡◌, ◌≢◌, ◌↔◌, ◌⊎◌, ℕ, List, ◌<◌, ◌≤◌, ◌^◌, [], ◌∷◌, Option, None, IsTrue, MatchOption, IfOk, OnErr, length, get_or, replicate, true, false};
-ghost use Rattle.hc_range.specs.Ranges.{Includes, InAny};
-ghost use Rattle.hc_core.specs.Account.{IsIdle, Stands, Txn, WhenOpen, part_of, txns};
+ghost use Rattle.std.specs.Prelude.{◌≡◌, ℕ, ◌<◌, ◌≤◌, [], Option, None, MatchOption, IfOk, OnErr, length, replicate};
+ghost use Rattle.hc_core.specs.Account.{IsIdle, Stands, Txn, WhenOpen};
 ghost use Rattle.hc_core.specs.Kept.{MayTakeMemory, PutsShortKey};
 ghost use Rattle.hc_core.specs.Machine.{Answers, IsFree, Names, after, start, txns_of};
-ghost use Rattle.hc_core.specs.Running.{Matches, MayDecide, MayPut, holds_key};
+ghost use Rattle.hc_core.specs.Running.{Matches};
 ghost use Rattle.hc_core.specs.Sound.{IsSound};
 ghost use Rattle.hc_core.specs.Versions.{IsInTheWay};
 ghost use Rattle.hc_core.specs.declared.event.Event.TheVariants.{Begin, Draw, Read, Put, Propose, Check, Decide, Unput, End, Purge};
