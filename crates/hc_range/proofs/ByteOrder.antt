@@ -10,20 +10,24 @@ use Rattle.std.specs.Ordering.{nat_cmp, is_lt, ordering_reverse, ordering_then}
 use Rattle.std.specs.Cmp.Lexicographic.{slice_cmp}
 use Rattle.hc_range.specs.Order.{is_below, successor}
 
+-- the only answer that is less is `Less`
 less_from_is_lt : (o : Ordering) → is_lt o ≡ true → o ≡ Less
 less_from_is_lt Less h = refl
 less_from_is_lt Equal h = absurd (false≢true h)
 less_from_is_lt Greater h = absurd (false≢true h)
 
+-- an answer that is less neither way round is `Equal`
 equal_from_neither : (o : Ordering) → is_lt o ≡ false → is_lt (ordering_reverse o) ≡ false → o ≡ Equal
 equal_from_neither Less h g = absurd (true≢false h)
 equal_from_neither Equal h g = refl
 equal_from_neither Greater h g = absurd (true≢false g)
 
+-- no key comes before itself
 pub below_irrefl : (a : List ℕ) → is_below a a ≡ false
 unfolding is_below
 below_irrefl a = ap is_lt (tied_itself nat_list_cmp_total a)
 
+-- what comes before a key comes before all that this key comes before
 pub below_trans : (a b c : List ℕ) → is_below a b ≡ true → is_below b c ≡ true → is_below a c ≡ true
 unfolding is_below
 below_trans a b c h g = ap is_lt (nat_list_cmp_total.trans a b c (less_from_is_lt _ h) (less_from_is_lt _ g))
@@ -64,14 +68,17 @@ at_most_trans a b c h g =
       | inr other ↦ other
     ]
 
+-- what is at most a key comes before it or is that key
 pub at_most_cases : (a b : List ℕ) → is_below b a ≡ false → (is_below a b ≡ true) ⊎ (a ≡ b)
 at_most_cases a b h =
     elim (cases_Bool (is_below a b)) [ inl less ↦ inl less | inr g ↦ inr (same_from_neither a b g h) ]
 
+-- what comes before a key, or is that key, is at most the key
 pub at_most_from : (a b : List ℕ) → (is_below a b ≡ true) ⊎ (a ≡ b) → is_below b a ≡ false
 at_most_from a b (inl h) = below_flip a b h
 at_most_from a b (inr h) = subst (λ (k : List ℕ). is_below k a ≡ false) h (below_irrefl a)
 
+-- of two keys one comes before the other, or they are one key
 pub order_total : (a b : List ℕ) → (is_below a b ≡ true) ⊎ (a ≡ b) ⊎ (is_below b a ≡ true)
 order_total a b =
     elim (cases_Bool (is_below a b)) [
@@ -82,11 +89,13 @@ order_total a b =
       ]
     ]
 
+-- nothing comes before the empty key
 pub empty_least : (key : List ℕ) → is_below key [] ≡ false
 unfolding is_below
 empty_least [] = refl
 empty_least (x ∷ xs) = refl
 
+-- a key comes before each longer one that begins with it
 pub prefix_below : (key more : List ℕ) (byte : ℕ) → is_below key (key ++ byte ∷ more) ≡ true
 unfolding is_below
 prefix_below [] more byte = refl
@@ -94,12 +103,14 @@ prefix_below (x ∷ xs) more byte =
     ap (λ (o : Ordering). is_lt (ordering_then o (slice_cmp nat_cmp xs (xs ++ byte ∷ more)))) (tied_itself nat_cmp_total x)
     ∙ prefix_below xs more byte
 
+-- where a comparison is less, the one the other way round is not
 nothing_between : (o : Ordering) (rest back : Ordering) → is_lt (ordering_then o rest) ≡ true
     → (is_lt rest ≡ true → is_lt back ≡ false) → is_lt (ordering_then (ordering_reverse o) back) ≡ false
 nothing_between Less rest back h more = refl
 nothing_between Equal rest back h more = more h
 nothing_between Greater rest back h more = absurd (false≢true h)
 
+-- no byte is less than zero: where the rest is not less either, the whole is not
 not_below_zero : (y : ℕ) (rest : Ordering) → is_lt rest ≡ false → is_lt (ordering_then (nat_cmp y 0) rest) ≡ false
 not_below_zero y rest h =
     elim (cases_eq y 0) [
@@ -107,6 +118,7 @@ not_below_zero y rest h =
       | inr some ↦ ap (λ (o : Ordering). is_lt (ordering_then o rest)) (sym (nat_cmp_is y 0 Greater (omega arith)))
     ]
 
+-- what a key comes before is not below the key's successor
 above_next : (key other : List ℕ) → is_below key other ≡ true → is_below other (successor key) ≡ false
 unfolding is_below
 above_next [] [] h = absurd (false≢true h)
@@ -124,5 +136,6 @@ successor_next key other h =
       | inr at_most ↦ at_most
     ]
 
+-- what is at most a key comes before its successor
 pub successor_above : (key other : List ℕ) → is_below key other ≡ false → is_below other (successor key) ≡ true
 successor_above key other h = at_most_below other key (successor key) h (prefix_below key [] 0)

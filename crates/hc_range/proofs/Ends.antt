@@ -31,6 +31,7 @@ pub end_below_more : (end : Option (List ℕ)) (key other : List ℕ) → is_end
 end_below_more None key other h g = absurd (false≢true h)
 end_below_more (Some end) key other h g = below_at_most end key other h g
 
+-- the higher of two keys is at or above the one and the other
 pub higher_left : (a b : List ℕ) → is_below (higher a b) a ≡ false
 higher_left a b = cond_both (is_below a b) b a (λ (k : List ℕ). is_below k a ≡ false) (λ h. below_flip a b h) (λ h. below_irrefl a)
 
@@ -45,6 +46,7 @@ higher_least a b key h g = cond_both (is_below a b) b a (λ (k : List ℕ). is_b
 Meet-from_higher : (a b : Range) → is_under (higher a.lo b.lo) a.hi ≡ true → is_under (higher a.lo b.lo) b.hi ≡ true → Meet a b
 Meet-from_higher a b h g = (higher a.lo b.lo, (higher_left a.lo b.lo, h), (higher_right a.lo b.lo, g))
 
+-- where ranges meet, the higher of their lower ends is under both upper ends
 higher_from_Meet : (a b : Range) → Meet a b → (is_under (higher a.lo b.lo) a.hi ≡ true) × (is_under (higher a.lo b.lo) b.hi ≡ true)
 higher_from_Meet a b meet =
     let least = higher_least a.lo b.lo meet.0 meet.1.0 meet.2.0 in
@@ -70,6 +72,7 @@ Meet-iff_under a b first both is test =
           at_both ∙ and_from (is_under (higher a.lo b.lo) a.hi) (is_under (higher a.lo b.lo) b.hi) under.0 under.1,
     )
 
+-- the lower of two keys is at or below the one and the other
 pub lower_left : (a b : List ℕ) → is_below a (lower a b) ≡ false
 lower_left a b = cond_both (is_below b a) b a (λ (k : List ℕ). is_below a k ≡ false) (λ h. below_flip b a h) (λ h. below_irrefl a)
 
@@ -81,9 +84,11 @@ pub lower_cases : (a b key : List ℕ) → is_below key (lower a b) ≡ false �
 lower_cases a b key = cond_both (is_below b a) b a
     (λ (k : List ℕ). is_below key k ≡ false → (is_below key a ≡ false) ⊎ (is_below key b ≡ false)) (λ _ h. inr h) (λ _ h. inl h)
 
+-- an end that stands below two keys stands below the lower of them
 pub end_below_lower : (end : Option (List ℕ)) (a b : List ℕ) → is_end_below end a ≡ true → is_end_below end b ≡ true → is_end_below end (lower a b) ≡ true
 end_below_lower end a b h g = cond_both (is_below b a) b a (λ (k : List ℕ). is_end_below end k ≡ true) (λ _. g) (λ _. h)
 
+-- what is under one of two ends is under the later of them
 pub under_later_left : (key : List ℕ) (a b : Option (List ℕ)) → is_under key a ≡ true → is_under key (later a b) ≡ true
 under_later_left key None b h = refl
 under_later_left key (Some a) None h = refl
@@ -101,6 +106,7 @@ under_later_cases key (Some a) None = λ h. inr refl
 under_later_cases key (Some a) (Some b) = cond_both (is_below a b) b a
     (λ (k : List ℕ). is_below key k ≡ true → (is_below key a ≡ true) ⊎ (is_below key b ≡ true)) (λ _ h. inr h) (λ _ h. inl h)
 
+-- the later of two ends that stand below a key stands below it
 pub later_end_below : (a b : Option (List ℕ)) (key : List ℕ) → is_end_below a key ≡ true → is_end_below b key ≡ true → is_end_below (later a b) key ≡ true
 later_end_below None b key h g = absurd (false≢true h)
 later_end_below (Some a) None key h g = absurd (false≢true g)
@@ -114,5 +120,6 @@ IsNonEmpty-since range key h = under_down range.lo key range.hi h.0 h.1
 pub begins_below : (a b : Range) → IsNonEmpty a → EndsBelow a b → is_below a.lo b.lo ≡ true
 begins_below a b h g = under_end a.lo b.lo a.hi h g
 
+-- a range that ends below one that is not empty ends below what that one ends below
 pub EndsBelow-trans : (a b c : Range) → EndsBelow a b → IsNonEmpty b → EndsBelow b c → EndsBelow a c
 EndsBelow-trans a b c h holds g = end_below_more a.hi b.lo c.lo h (below_flip b.lo c.lo (begins_below b c holds g))

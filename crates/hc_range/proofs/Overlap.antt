@@ -8,6 +8,7 @@ use Rattle.hc_range.specs.declared.range.Range.{Range}
 use Rattle.hc_range.proofs.ByteOrder.{at_most_trans, below_trans}
 use Rattle.hc_range.proofs.Unique.{normal_form_unique}
 
+-- of the keys a, b, c and d: b is not below a, c is not below b, and c is below d
 b_is_not_below_a : is_below (98 ∷ []) (97 ∷ []) ≡ false
 unfolding is_below
 b_is_not_below_a = refl
@@ -20,6 +21,7 @@ c_is_below_d : is_below (99 ∷ []) (100 ∷ []) ≡ true
 unfolding is_below
 c_is_below_d = refl
 
+-- the one range from a to d is normal, and holds c but not d
 normal : IsNormal (bytes_from 97 100 ∷ [])
 unfolding is_below
 normal = (refl, tt, tt)
@@ -47,6 +49,7 @@ same_keys key = (
       (λ second. inl (at_most_trans (97 ∷ []) (98 ∷ []) key b_is_not_below_a second.0, second.1)) either,
 )
 
+-- the ranges from a to c and from b to d are the one from a to d
 pub overlap_is : OverlapIsOneRange
 overlap_is = record {
   one = λ log. (

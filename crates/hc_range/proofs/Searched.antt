@@ -22,24 +22,29 @@ partitioned p ranges normal f i j d le within h =
           (ends_below_at ranges normal i j d (omega arith) within) h
     ]
 
+-- in a normal list the ranges that end below a key are a front
 pub before_partitioned : (key : List ℕ) (ranges : List Range) → IsNormal ranges → IsPartitionedBy (λ range. is_end_below range.hi key) ranges
 before_partitioned key ranges normal =
     partitioned (λ range. is_end_below range.hi key) ranges normal
     (λ a b one two below h. end_below_more a.hi b.lo key below (below_flip b.lo key (under_end b.lo key b.hi two h)))
 
+-- where an end does not stand below a range, it stands below none that comes earlier
 begun_at : (end : Option (List ℕ)) (a b : Range) → IsNonEmpty a → EndsBelow a b → is_end_below end b.lo ≡ false → is_end_below end a.lo ≡ false
 begun_at end a b holds below h =
     false_from_ne_true _ (λ g. true≢false (sym (end_below_more end a.lo b.lo g (below_flip a.lo b.lo (begins_below a b holds below))) ∙ h))
 
+-- in a normal list the ranges that an end does not stand below are a front
 pub begun_partitioned : (end : Option (List ℕ)) (ranges : List Range) → IsNormal ranges → IsPartitionedBy (λ range. not (is_end_below end range.lo)) ranges
 begun_partitioned end ranges normal =
     partitioned (λ range. not (is_end_below end range.lo)) ranges normal
     (λ a b one two below h. not_from_false _ (begun_at end a b one below (not-true _ h)))
 
+-- where a key is not under the end of a range, it is under the end of none that comes earlier
 passed_at : (key : List ℕ) (a b : Range) → IsNonEmpty b → EndsBelow a b → is_under key b.hi ≡ false → is_under key a.hi ≡ false
 passed_at key a b holds below h =
     false_from_ne_true _ (λ g. true≢false (sym (under_down key b.lo b.hi (below_flip key b.lo (under_end key b.lo a.hi g below)) holds) ∙ h))
 
+-- in a normal list the ranges whose ends a key is not under are a front
 pub passed_partitioned : (key : List ℕ) (ranges : List Range) → IsNormal ranges → IsPartitionedBy (λ range. not (is_under key range.hi)) ranges
 passed_partitioned key ranges normal =
     partitioned (λ range. not (is_under key range.hi)) ranges normal
@@ -52,11 +57,13 @@ AllWithin-not_true p ranges low high h k d from upto = not-true _ (h k d from up
 pub AllWithin-not_false : (p : Range → Bool) (ranges : List Range) (low high : ℕ) → AllWithin (λ range. not (p range) ≡ false) ranges low high → AllWithin (λ range. p range ≡ true) ranges low high
 AllWithin-not_false p ranges low high h k d from upto = not-false _ (h k d from upto)
 
+-- a key lies in no range whose end it is not under
 none_in_passed : (key : List ℕ) (ranges : List Range) → Each (λ range. is_under key range.hi ≡ false) ranges → InAny ranges key → ⊥
 none_in_passed key [] h at = elim at [ ]
 none_in_passed key (range ∷ ranges) h (inl at) = true≢false (sym at.1 ∙ h.0)
 none_in_passed key (range ∷ ranges) h (inr at) = none_in_passed key ranges h.1 at
 
+-- a key of the list that is not under the ends of the first n ranges lies in the rest
 in_rest : (key : List ℕ) (n : ℕ) (ranges : List Range) → n ≤ length ranges → AllWithin (λ range. is_under key range.hi ≡ false) ranges 0 n
     → InAny ranges key → InAny (drop n ranges) key
 in_rest key n ranges le passed at =
@@ -83,6 +90,7 @@ next_holds key n ranges d normal lt passed under at =
       | inr later ↦ absurd (none_later (get_or ranges n d) (drop (n + 1) ranges) key under rest_normal.1 later)
     ]
 
+-- a key in a range of the list lies in the list
 pub InAny-contains : (ranges : List Range) (range : Range) (key : List ℕ) → Contains ranges range → InRange range key → InAny ranges key
 InAny-contains ranges range key at h = go ranges at.0 at.1 at.2
   where

@@ -7,6 +7,7 @@ use Rattle.hc_range.specs.declared.range.Range.{Range}
 use Rattle.hc_range.proofs.ByteOrder.{below_irrefl, below_flip, same_from_neither}
 use Rattle.hc_range.proofs.Normal.{within_ends, none_later}
 
+-- a list whose keys all lie in another does not begin before it
 begins_no_earlier : (one other : Range) (ones others : List Range) → IsNormal (one ∷ ones) → IsNormal (other ∷ others)
     → ((key : List ℕ) → InAny (one ∷ ones) key → InAny (other ∷ others) key) → is_below one.lo other.lo ≡ false
 begins_no_earlier one other ones others h g same = (within_ends other others one.lo g (same one.lo (inl (below_irrefl one.lo, h.0)))).0
@@ -30,6 +31,7 @@ ends_no_later one other ones others end h g same_lo same is later =
     (subst (λ (hi : Option (List ℕ)). is_under other.lo hi ≡ true) is g.0)) in
     end_is_out other others end is g.1 (same end (inl (above, later)))
 
+-- two upper ends are one where neither is under the other
 same_ends : (a b : Option (List ℕ)) → ((end : List ℕ) → b ≡ Some end → is_under end a ≡ true → ⊥)
     → ((end : List ℕ) → a ≡ Some end → is_under end b ≡ true → ⊥) → a ≡ b
 same_ends None None h g = refl
@@ -59,6 +61,7 @@ rest_in one other ones others key is apart to at =
       | inr rest ↦ rest
     ]
 
+-- two normal lists that hold the same keys are one list
 pub normal_form_unique : (one other : List Range) → IsNormal one → IsNormal other
     → ((key : List ℕ) → InAny one key ↔ InAny other key) → one ≡ other
 normal_form_unique [] [] h g same = refl

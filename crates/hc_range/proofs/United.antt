@@ -10,11 +10,13 @@ use Rattle.hc_range.proofs.ByteOrder.{at_most_trans}
 use Rattle.hc_range.proofs.Ends.{under_down, under_later_left, under_later_right, under_later_cases, lower_left, lower_right, lower_cases, end_below_lower, later_end_below, under_since_not_below, above_since_not_under}
 use Rattle.hc_range.proofs.Normal.{Each, Each-take, Each-drop, Apart, EndsBelowEach-back, last, last_in, within_ends, IsNormal-front, IsNormal-back, IsNormal-append, Apart-from_normal, InAny-cases, InAny-left, InAny-right}
 
+-- what follows from two facts of a range holds of each where both do
 Each-both : (P Q R : Range → Type 0) → ((range : Range) → P range → Q range → R range)
     → (ranges : List Range) → Each P ranges → Each Q ranges → Each R ranges
 Each-both P Q R f [] h g = tt
 Each-both P Q R f (range ∷ ranges) h g = (f range h.0 g.0, Each-both P Q R f ranges h.1 g.1)
 
+-- a range that ends below the ranges of a list one by one ends below the list
 EndsBelowEach-from : (range : Range) (ranges : List Range) → Each (λ other. EndsBelow range other) ranges → EndsBelowEach range ranges
 EndsBelowEach-from range [] h = tt
 EndsBelowEach-from range (other ∷ ranges) h = (h.0, EndsBelowEach-from range ranges h.1)
@@ -28,6 +30,7 @@ IsNormal-put range front back normal holds before after =
     (Each-both (λ other. EndsBelow other range) (λ other. EndsBelowEach other back) (λ other. EndsBelowEach other (range ∷ back))
     (λ _ below more. (below, more)) front before (Apart-from_normal front back normal))
 
+-- a range put between a front and a back adds its own keys to theirs
 pub InAny-put : (range : Range) (front back : List Range) (key : List ℕ)
     → InAny (front ++ range ∷ back) key ↔ (InAny (front ++ back) key ⊎ InRange range key)
 InAny-put range front back key = (out, elim_in)
@@ -46,14 +49,17 @@ InAny-put range front back key = (out, elim_in)
       | inr after ↦ InAny-right front (range ∷ back) key (inr after)
     ]
 
+-- where a stretch ends below what stands behind it, its last range does
 last_ends_below : (first : Range) (more back : List Range) → Apart (first ∷ more) back → EndsBelowEach (last first more) back
 last_ends_below first [] back h = h.0
 last_ends_below first (other ∷ more) back h = last_ends_below other more back h.1
 
+-- what holds of each holds of the last
 Each-last : (P : Range → Type 0) (first : Range) (more : List Range) → Each P (first ∷ more) → P (last first more)
 Each-last P first [] h = h.0
 Each-last P first (other ∷ more) h = Each-last P other more h.1
 
+-- a range that ends below a list ends below its ranges one by one
 each_from : (range : Range) (ranges : List Range) → EndsBelowEach range ranges → Each (λ other. EndsBelow range other) ranges
 each_from range [] h = tt
 each_from range (other ∷ ranges) h = (h.0, each_from range ranges h.1)
@@ -99,6 +105,7 @@ united_cases range first more key touches_first touches_last at =
       ]
     ]
 
+-- each key of the stretch is in the united range
 united_from_stretch : (range first : Range) (more : List Range) (key : List ℕ) → IsNormal (first ∷ more)
     → InAny (first ∷ more) key → InRange (united range first (last first more)) key
 united_from_stretch range first more key normal at =
@@ -107,6 +114,7 @@ united_from_stretch range first more key normal at =
       under_later_right key range.hi (last first more).hi ends.1,
     )
 
+-- each key of the range is in the united range
 united_from_range : (range first end : Range) (key : List ℕ) → InRange range key → InRange (united range first end) key
 united_from_range range first end key at =
     (at_most_trans (lower range.lo first.lo) range.lo key (lower_left range.lo first.lo) at.0, under_later_left key range.hi end.hi at.1)
@@ -151,11 +159,13 @@ pub record Stretch (ranges : List Range) (n : ℕ) (d : Range) : Type 0 where
   pub at_start : get_or ranges 0 d ≡ first
   pub at_end : get_or ranges (n - 1) d ≡ last first more
 
+-- the one at place n of a list is the last of its first n + 1
 last_at : (first : Range) (ranges : List Range) (n : ℕ) (d : Range) → n ≤ length ranges → get_or (first ∷ ranges) n d ≡ last first (take n ranges)
 last_at first ranges zero d le = refl
 last_at first [] (suc n) d le = absurd (omega arith)
 last_at first (other ∷ ranges) (suc n) d le = last_at other ranges n d (omega arith)
 
+-- the first n of a list, at least one and no more than it has, are a stretch
 pub stretch_of : (ranges : List Range) (n : ℕ) (d : Range) → 0 < n → n ≤ length ranges → Stretch ranges n d
 stretch_of ranges zero d some le = absurd (omega arith)
 stretch_of [] (suc n) d some le = absurd (omega arith)
@@ -210,6 +220,7 @@ IsNormal-inserted ranges range from cut normal holds =
     (Each-take (λ other. EndsBelow other range) from ranges cut.from_within cut.before)
     (Each-drop (λ other. EndsBelow range other) 0 (drop from ranges) cut.behind)
 
+-- an inserted range adds its own keys to those of the list
 pub InAny-inserted : (ranges : List Range) (range : Range) (from : ℕ) (key : List ℕ)
     → InAny (insert ranges from range) key ↔ (InAny ranges key ⊎ InRange range key)
 InAny-inserted ranges range from key =
@@ -220,6 +231,7 @@ InAny-inserted ranges range from key =
 abbrev pub merged : List Range → Range → ℕ → ℕ → List Range
 merged ranges range from to = take from ranges ++ united range (get_or ranges from range) (get_or ranges (to - 1) range) ∷ drop to ranges
 
+-- the merged list is the front, the united range and what stands behind the stretch
 merged_is : (ranges : List Range) (range : Range) (from count : ℕ) → 0 < count → (stretch : Stretch (drop from ranges) count range)
     → merged ranges range from (from + count) ≡ take from ranges ++ united range stretch.first (last stretch.first stretch.more) ∷ drop count (drop from ranges)
 merged_is ranges range from count some stretch =
@@ -228,6 +240,7 @@ merged_is ranges range from count some stretch =
     ap (λ (i : ℕ). get_or ranges i range) (omega arith) ∙ sym (get_or-drop from ranges (count - 1) range) ∙ stretch.at_end in
     λ i. take from ranges ++ united range (at_start i) (at_end i) ∷ sym (drop-drop count from ranges) i
 
+-- a list is its front, the stretch, and what stands behind it
 parts : (ranges : List Range) (range : Range) (from count : ℕ) (stretch : Stretch (drop from ranges) count range)
     → ranges ≡ take from ranges ++ ((stretch.first ∷ stretch.more) ++ drop count (drop from ranges))
 parts ranges range from count stretch =
@@ -235,6 +248,7 @@ parts ranges range from count stretch =
     ∙ ap (λ (xs : List Range). take from ranges ++ xs) (sym (take-append-drop count (drop from ranges)))
     ∙ ap (λ (xs : List Range). take from ranges ++ (xs ++ drop count (drop from ranges))) stretch.is
 
+-- the merged list is normal
 pub IsNormal-merged : (ranges : List Range) (range : Range) (from count : ℕ) → 0 < count → Cut ranges range from count → IsNormal ranges → IsNonEmpty range
     → IsNormal (merged ranges range from (from + count))
 IsNormal-merged ranges range from count some cut normal holds =
@@ -245,11 +259,13 @@ IsNormal-merged ranges range from count some cut normal holds =
     (Each-take (λ other. EndsBelow other range) from ranges cut.from_within cut.before)
     (Each-drop (λ other. EndsBelow range other) count (drop from ranges) cut.behind))
 
+-- what holds of each of a list holds of the first
 first_of_each : (P : Range → Type 0) (first : Range) (more : List Range) (n : ℕ) (ranges : List Range) → take n ranges ≡ first ∷ more → Each P ranges → P first
 first_of_each P first more zero ranges is h = cc
 first_of_each P first more (suc n) [] is h = cc
 first_of_each P first more (suc n) (range ∷ ranges) is h = subst P (ap (λ (xs : List Range). get_or xs 0 first) is) h.0
 
+-- the merged list holds the keys of the list and of the range
 pub InAny-merged : (ranges : List Range) (range : Range) (from count : ℕ) → 0 < count → Cut ranges range from count → IsNormal ranges
     → (key : List ℕ) → InAny (merged ranges range from (from + count)) key ↔ (InAny ranges key ⊎ InRange range key)
 InAny-merged ranges range from count some cut normal key =
