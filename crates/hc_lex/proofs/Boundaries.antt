@@ -32,6 +32,7 @@ use Rattle.hc_lex.proofs.SpansSoFar.{filter_map-continued, last_behind, range, s
 abbrev pub BeginsPastAscii : List ℕ → Type 0
 BeginsPastAscii bytes = Begins (λ b. 128 ≤ b) bytes
 
+-- the last byte of the text is one of ASCII
 abbrev pub EndsInAscii : List ℕ → Type 0
 EndsInAscii text = (front : List ℕ) × (b : ℕ) × (b < 128) × (text ≡ front ++ b ∷ [])
 
@@ -42,18 +43,22 @@ EndsCleanly text behind = (¬ BeginsPastAscii behind) ⊎ EndsInAscii text
 below_ascii : (b : ℕ) → (128 ≤ b → ⊥) → b < 128
 below_ascii b h = omega arith
 
+-- where a name ends, no character past ASCII follows
 name_ends : (rest : List ℕ) → ¬ GoesOn run.Name rest → ¬ BeginsPastAscii rest
 name_ends [] ends past = past
 name_ends (b ∷ rest) ends past = ends (ap goes_on_with_name (past_ascii_is_letter b past))
 
+-- where a line ends, none follows either
 line_ends : (rest : List ℕ) → ¬ GoesOn run.Line rest → ¬ BeginsPastAscii rest
 line_ends [] ends past = past
 line_ends (b ∷ rest) ends past =
     ends (ap not (false_from_ne_true (b == 10) (λ e. let same : b ≡ 10 = eqb-true b 10 e in omega arith)))
 
+-- a space is a byte of ASCII
 space_is_ascii : (b : ℕ) → class_of b ≡ Space → b < 128
 space_is_ascii b is = below_ascii b (λ past. let letter : class_of b ≡ Letter = past_ascii_is_letter b past in cc)
 
+-- a space and a comment end cleanly
 blank_ends : (text rest : List ℕ) → IsBlank text rest → EndsCleanly text rest
 blank_ends text rest (inl (b, is, e)) = inr ([], b, space_is_ascii b is, e)
 blank_ends text rest (inr (inl (inner, e, is, ends))) = inl (line_ends rest ends)
@@ -61,6 +66,7 @@ blank_ends text rest (inr (inr (inner, none, inl e))) =
     inr (47 ∷ 42 ∷ inner ++ 42 ∷ [], 47, omega arith, e ∙ ap (λ r. 47 ∷ 42 ∷ r) (sym (append_assoc inner (42 ∷ []) (47 ∷ []))))
 blank_ends text rest (inr (inr (inner, none, inr (e, ends)))) = inl (λ past. subst (λ r. BeginsPastAscii r) ends past)
 
+-- bytes whose first is one of ASCII do not begin past it
 headed : (b : ℕ) (bytes more : List ℕ) → bytes ≡ b ∷ more → b < 128 → ¬ BeginsPastAscii bytes
 headed b bytes more e small past = let here : 128 ≤ b = subst (λ bs. BeginsPastAscii bs) e past in omega arith
 
@@ -71,6 +77,7 @@ blank_begins text rest (inr (inl (inner, e, is, ends))) past = headed 45 (text +
 blank_begins text rest (inr (inr (inner, none, inl e))) past = headed 47 (text ++ rest) _ (ap (λ t. t ++ rest) e) (omega arith) past
 blank_begins text rest (inr (inr (inner, none, inr (e, ends)))) past = headed 47 (text ++ rest) _ (ap (λ t. t ++ rest) e) (omega arith) past
 
+-- what stands in quotes ends cleanly, and so do signs of one and of two characters
 quoted_ends : (quote : ℕ) (text rest : List ℕ) → quote < 128 → IsQuoted quote text rest → EndsCleanly text rest
 quoted_ends quote text rest small is = inr (quote ∷ doubled quote is.0, quote, small, is.1)
 
@@ -80,6 +87,7 @@ one_sign b text rest small e = inr ([], b, small, e)
 two_signs : (a b : ℕ) (text rest : List ℕ) → b < 128 → text ≡ a ∷ b ∷ [] → EndsCleanly text rest
 two_signs a b text rest small e = inr (a ∷ [], b, small, e)
 
+-- each token ends cleanly
 token_ends : (k : TokenKind) (text rest : List ℕ) → IsToken k text rest → EndsCleanly text rest
 token_ends kind.Name text rest is = inl (name_ends rest is.0.2)
 token_ends (kind.Keyword k) text rest is = inl (name_ends rest is.0.2)
@@ -107,6 +115,7 @@ token_ends kind.NotEqual text rest is = two_signs 33 61 text rest (omega arith) 
 token_ends kind.DoubleBar text rest is = two_signs 124 124 text rest (omega arith) is
 token_ends kind.Semicolon text rest is = one_sign 59 text rest (omega arith) is
 
+-- a token and what stands between tokens end cleanly
 lexeme_ends : (k : Option TokenKind) (text rest : List ℕ) → IsTokenOrBlank k text rest → EndsCleanly text rest
 lexeme_ends None text rest is = blank_ends text rest is
 lexeme_ends (Some k) text rest is = token_ends k text rest is
@@ -121,6 +130,7 @@ boundary_before text front (b ∷ bytes) e clean =
     let here : get_or text (length front) 0 ≡ b = ap (λ t. get_or t (length front) 0) e ∙ get_or-append_seam front b bytes 0 in
     (omega arith, λ within past. absurd (clean (subst (λ x. 128 ≤ x) here past)))
 
+-- a character ends where a piece ends cleanly
 boundary_behind : (text front piece behind : List ℕ) → IsUtf8 text → text ≡ front ++ (piece ++ behind) → EndsCleanly piece behind → IsCharBoundary text (length front + length piece)
 boundary_behind text front piece behind utf8 e (inl clean) =
     subst (λ k. IsCharBoundary text k) (length-append front piece) (boundary_before text (front ++ piece) behind (e ∙ sym (append_assoc front piece behind)) clean)
@@ -133,10 +143,12 @@ boundary_behind text front piece behind utf8 e (inr (more, b, small, last)) =
     let place : length (front ++ more) + 1 ≡ length front + length piece = omega (arith, length-append front more, ap length last, length-append more (b ∷ [])) in
     subst (λ k. IsCharBoundary text k) place (IsCharBoundary-after_ascii text (length (front ++ more)) utf8 within (subst (λ x. x < 128) (sym here) small))
 
+-- with one token more in front, or none, tokens lie at characters
 with_token : (text : List ℕ) (k : Option TokenKind) (from to : ℕ) (tokens : List Token) → IsCharBoundary text from → IsCharBoundary text to → TokensAtCharacters text tokens → TokensAtCharacters text (token_if k from to ++ tokens)
 with_token text None from to tokens first last later = later
 with_token text (Some k) from to tokens first last later = ((first, last), later)
 
+-- the tokens of pieces lie at characters, from a place between characters on
 tokens_at : (text front : List ℕ) (ps : List (Piece (Option TokenKind))) (bytes : List ℕ) → IsUtf8 text → text ≡ front ++ bytes → IsCharBoundary text (length front) → Front IsTokenOrBlank ps bytes [] → TokensAtCharacters text (tokens_of (length front) ps)
 tokens_at text front [] bytes utf8 e here is = tt
 tokens_at text front (p ∷ ps) bytes utf8 e here is =
@@ -147,6 +159,7 @@ tokens_at text front (p ∷ ps) bytes utf8 e here is =
     with_token text p.kind (length front) (length front + length p.text) (tokens_of (length front + length p.text) ps) here next
     (subst (λ k. TokensAtCharacters text (tokens_of k ps)) (length-append front p.text) later)
 
+-- each token begins and ends between characters of its text
 pub tokens_lie_at : TokensLieAtCharacters
 tokens_lie_at text tokens utf8 (ps, front, e) =
     subst (λ ts. TokensAtCharacters text ts) (sym e) (tokens_at text [] ps text utf8 refl (IsCharBoundary-start text utf8) front)
@@ -160,6 +173,7 @@ pub record GoesOnFrom (text : List ℕ) (place : ℕ) (places : List ℕ) (at : 
 ends_at : (text : List ℕ) (place : ℕ) (places : List ℕ) (at : ℕ) → GoesOnFrom text place places at → IsCharBoundary text at → IsCharBoundary text (last_of place places + 1)
 ends_at text place places at is here = elim is.last [ inl e ↦ subst (λ k. IsCharBoundary text k) (sym e) here | inr last ↦ last ]
 
+-- with one statement more in front, statements lie at characters
 with_span : (text : List ℕ) (place : ℕ) (places : List ℕ) (spans : List Span) → IsCharBoundary text place → IsCharBoundary text (last_of place places + 1) → SpansAtCharacters text spans → SpansAtCharacters text (option_to_list (span_of (place ∷ places)) ++ spans)
 with_span text place places spans first last later = ((first, last), later)
 
@@ -168,22 +182,27 @@ abbrev pub Stands : List ℕ → List ℕ → ℕ → Type 0
 Stands text [] at = IsCharBoundary text at
 Stands text (place ∷ places) at = GoesOnFrom text place places at
 
+-- what is known at a place stays known behind a blank
 blank_status : (text places : List ℕ) (at behind : ℕ) → IsCharBoundary text at → IsCharBoundary text behind → Stands text places at → Stands text places behind
 blank_status text [] at behind here next is = next
 blank_status text (place ∷ places) at behind here next is = record { first = is.first; last = inr (ends_at text place places at is here) }
 
+-- behind bytes of a statement, a statement goes on there
 own_status : (text places : List ℕ) (n at : ℕ) → 0 < n → Stands text places at → Stands text (places ++ range at n) (at + n)
 own_status text places zero at some is = absurd (omega arith)
 own_status text [] (suc n) at some is = record { first = is; last = inl (last_behind 0 [] at n) }
 own_status text (place ∷ places) (suc n) at some is = record { first = is.first; last = inl (last_behind place places at n) }
 
+-- where a statement ends, or none stands, its span lies at characters with those behind it
 ended : (text places : List ℕ) (at : ℕ) (spans : List Span) → IsCharBoundary text at → Stands text places at → SpansAtCharacters text spans → SpansAtCharacters text (option_to_list (span_of places) ++ spans)
 ended text [] at spans here is later = later
 ended text (place ∷ places) at spans here is later = with_span text place places spans is.first (ends_at text place places at is here) later
 
+-- the spans from here on lie at characters, whatever statement goes on here
 abbrev Later : List ℕ → List ℕ → List Part → Type 0
 Later text front more = (places : List ℕ) → Stands text places (length front) → SpansAtCharacters text (spans_from (length front) places more)
 
+-- the spans from a piece on lie at characters where those behind it do
 step : (text front : List ℕ) (k : Part) (t behind places : List ℕ) (more : List Part) → IsUtf8 text → text ≡ front ++ (t ++ behind) → IsPart k t behind → Stands text places (length front) → Later text (front ++ t) more
     → SpansAtCharacters text (spans_from (length front) places (replicate (length t) k ++ more))
 step text front Blank t behind places more utf8 e is here later =
@@ -206,6 +225,7 @@ step text front Separator t behind places more utf8 e is here later =
     (sym (ap (λ n. spans_from (length front) places (replicate n Separator ++ more)) one ∙ spans_from-end (length front) places more))
     (ended text places (length front) (spans_from (length front + 1) [] more) before here (subst (λ k. SpansAtCharacters text (spans_from k [] more)) place (later [] next)))
 
+-- the spans of the pieces from a place on lie at characters
 spans_at : (text front places : List ℕ) (ps : List (Piece Part)) (bytes : List ℕ) → IsUtf8 text → text ≡ front ++ bytes → Stands text places (length front) → Front IsPart ps bytes [] → SpansAtCharacters text (spans_from (length front) places (parts_of ps))
 spans_at text front places [] bytes utf8 e here is =
     let end : IsCharBoundary text (length front) = boundary_before text front [] (e ∙ ap (λ r. front ++ r) is) (λ past. past) in
@@ -216,6 +236,7 @@ spans_at text front places (p ∷ ps) bytes utf8 e here is =
     step text front p.kind p.text is.0 places (parts_of ps) utf8 whole is.2 here
     (λ next stands. spans_at text (front ++ p.text) next ps is.0 utf8 (whole ∙ sym (append_assoc front p.text is.0)) stands is.3)
 
+-- each statement begins and ends between characters of its text
 pub statements_lie_at : StatementsLieAtCharacters
 statements_lie_at text spans utf8 (ps, front, e) =
     subst (λ ss. SpansAtCharacters text ss) (filter_map-continued (groups_of 0 (parts_of ps)) ∙ sym e)

@@ -19,6 +19,7 @@ class_by space letter digit dollar quote sign =
     else (if sign then Sign
     else Other)))))
 
+-- where the class is digits, quotes or signs, the answer to the question for it is yes
 digit_answer : (s l d m q g : Bool) → class_by s l d m q g ≡ Digit → d ≡ true
 digit_answer true l d m q g e = cc
 digit_answer false true d m q g e = cc
@@ -46,17 +47,21 @@ sign_answer false false false false true g e = cc
 sign_answer false false false false false true e = refl
 sign_answer false false false false false false e = cc
 
+-- what is of the class of digits is a digit of ASCII
 pub digit_class : (b : ℕ) → class_of b ≡ Digit → is_ascii_digit b ≡ true
 unfolding class_of
 digit_class b e = digit_answer _ _ _ _ _ _ e
 
+-- the two bytes of the test are the quotes
 quote_test : (b : ℕ) → (b == 34 || b == 39) ≡ true → IsQuote b
 quote_test b e = grind (arith, nat_tests)
 
+-- what is of the class of quotes is a quote
 pub quote_class : (b : ℕ) → class_of b ≡ Quote → IsQuote b
 unfolding class_of
 quote_class b e = quote_test b (quote_answer _ _ _ _ _ _ e)
 
+-- what is of the class of signs is a sign
 pub sign_class : (b : ℕ) → class_of b ≡ Sign → is_sign b ≡ true
 unfolding class_of
 sign_class b e = sign_answer _ _ _ _ _ _ e
@@ -65,6 +70,7 @@ sign_class b e = sign_answer _ _ _ _ _ _ e
 pub bar_is_left : (b : ℕ) → is_sign b ≡ true → b ≢ 40 → b ≢ 41 → b ≢ 44 → b ≢ 46 → b ≢ 43 → b ≢ 45 → b ≢ 42 → b ≢ 47 → b ≢ 37 → b ≢ 59 → b ≢ 61 → b ≢ 60 → b ≢ 62 → b ≢ 33 → b ≡ 124
 bar_is_left b e n1 n2 n3 n4 n5 n6 n7 n8 n9 n10 n11 n12 n13 n14 = grind (arith, nat_tests)
 
+-- neither a minus nor a slash is a space
 pub minus_is_no_space : class_of 45 ≢ Space
 unfolding class_of
 minus_is_no_space = λ e. cc
@@ -80,16 +86,19 @@ class_with false true d m q g no_s no_l is = cc
 class_with false false true m q g no_s no_l is = refl
 class_with false false false m q g no_s no_l is = cc
 
+-- a digit is neither a space nor a letter
 digit_is_no_space : (b : ℕ) → is_ascii_digit b ≡ true → is_space b ≡ false
 digit_is_no_space b e = grind (arith, nat_tests)
 
 digit_is_no_letter : (b : ℕ) → is_ascii_digit b ≡ true → is_letter b ≡ false
 digit_is_no_letter b e = grind (arith, nat_tests)
 
+-- a digit of ASCII is of the class of digits
 pub digit_has_class : (b : ℕ) → is_ascii_digit b ≡ true → class_of b ≡ Digit
 unfolding class_of
 digit_has_class b e = class_with (is_space b) (is_letter b) (is_ascii_digit b) _ _ _ (digit_is_no_space b e) (digit_is_no_letter b e) e
 
+-- the mark of a blob is of the class of letters
 pub mark_has_class : (b : ℕ) → IsBlobMark b → class_of b ≡ Letter
 unfolding class_of
 mark_has_class b (inl e) = ap class_of e
@@ -101,12 +110,14 @@ letter_with true l d m q g no_s is = cc
 letter_with false true d m q g no_s is = refl
 letter_with false false d m q g no_s is = cc
 
+-- a byte past ASCII is no space, and passes as a letter
 past_ascii_is_no_space : (b : ℕ) → 128 ≤ b → is_space b ≡ false
 past_ascii_is_no_space b h = grind (arith, nat_tests)
 
 past_ascii_passes : (b : ℕ) → 128 ≤ b → is_letter b ≡ true
 past_ascii_passes b h = grind (arith, nat_tests)
 
+-- a byte past ASCII is of the class of letters
 pub past_ascii_is_letter : (b : ℕ) → 128 ≤ b → class_of b ≡ Letter
 unfolding class_of
 past_ascii_is_letter b h = letter_with (is_space b) (is_letter b) _ _ _ _ (past_ascii_is_no_space b h) (past_ascii_passes b h)

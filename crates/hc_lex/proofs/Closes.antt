@@ -16,17 +16,21 @@ pub record NoCloseSoFar (bytes rest : List ℕ) : Type 0 where
   pub whole : bytes ≡ inner ++ rest
   pub none : HasNoCloseUpTo inner rest
 
+-- where nothing was read, no `*/` began
 pub no_close_at_start : (bytes : List ℕ) → NoCloseSoFar bytes bytes
 no_close_at_start bytes = record { inner = []; whole = refl; none = tt }
 
+-- what begins with a slash does so with more behind it
 begins_in_more : (front rest : List ℕ) → BeginsWith 47 front → BeginsWith 47 (front ++ rest)
 begins_in_more [] rest h = absurd h
 begins_in_more (b ∷ front) rest h = h
 
+-- where no `*/` begins in some bytes, none stands in them
 has_no_close : (inner rest : List ℕ) → HasNoCloseUpTo inner rest → HasNoClose inner
 has_no_close [] rest h = tt
 has_no_close (b ∷ inner) rest h = (λ p. h.0 (p.0, begins_in_more inner rest p.1), has_no_close inner rest h.1)
 
+-- and with one byte more that begins none
 up_to_more : (inner : List ℕ) (b : ℕ) (behind : List ℕ) → HasNoCloseUpTo inner (b ∷ behind) → ¬ ((b ≡ 42) × BeginsWith 47 behind) → HasNoCloseUpTo (inner ++ b ∷ []) behind
 up_to_more [] b behind h n = (n, tt)
 up_to_more (c ∷ inner) b behind h n =

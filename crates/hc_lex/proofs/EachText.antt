@@ -41,10 +41,12 @@ end_once : (k : Run) (b : ℕ) (after bytes : List ℕ) (t : Bool) → is_in k b
 end_once k b after bytes true e ends = ends
 end_once k b after bytes false e ends = λ goes. false≢true (sym e ∙ goes)
 
+-- what stands behind the run does not go on with it
 run_ends : (k : Run) (bytes : List ℕ) → ¬ GoesOn k (after_run k bytes)
 run_ends k [] = λ goes. goes
 run_ends k (b ∷ bytes) = end_once k b (after_run k bytes) bytes (is_in k b) refl (run_ends k bytes)
 
+-- the run that is found is the run that the bytes begin with
 begins_run : (k : Run) (bytes : List ℕ) → BeginsRun k bytes (run_of k bytes) (after_run k bytes)
 begins_run k bytes = (sym (run-split k bytes), run_is_run k bytes, run_ends k bytes)
 
@@ -83,6 +85,7 @@ comment_ends bytes (b ∷ behind) s = elim (eqb_tells b 42) [
 abbrev pub HasFirst : List ℕ → Type 0
 HasFirst bytes = ((k : Option TokenKind) × (rest : List ℕ) × Skips (IsTokenOrBlank k) bytes rest) ⊎ ((fault : LexKind) × (offset : ℕ) × IsFlaw fault offset bytes)
 
+-- a token in front is a lexeme there
 first_token : (k : TokenKind) (bytes text rest : List ℕ) → bytes ≡ text ++ rest → IsToken k text rest → HasFirst bytes
 first_token k bytes text rest e is = inl (Some k, rest, (text, e, is))
 
@@ -97,6 +100,7 @@ two_signs_or k c d bytes is otherwise = elim (begins_tells d bytes) [
   | inr alone ↦ otherwise alone
 ]
 
+-- a space or a comment in front is a lexeme there
 first_blank : (bytes rest : List ℕ) → Skips IsBlank bytes rest → HasFirst bytes
 first_blank bytes rest skips = inl (None, rest, skips)
 
@@ -110,6 +114,7 @@ word_by : (bytes text rest : List ℕ) (found : Option Keyword) → keyword_of t
 word_by bytes text rest None keyword e is = first_token kind.Name bytes text rest e (is, keyword)
 word_by bytes text rest (Some k) keyword e is = first_token (kind.Keyword k) bytes text rest e (is, keyword)
 
+-- a letter that begins no blob begins a lexeme or a fault
 first_word : (b : ℕ) (bytes : List ℕ) → class_of b ≡ Letter → ¬ BeginsBlob (b ∷ bytes) → HasFirst (b ∷ bytes)
 first_word b bytes is no_blob =
     let run_is : BeginsRun run.Name (b ∷ bytes) (run_of run.Name (b ∷ bytes)) (after_run run.Name (b ∷ bytes)) = begins_run run.Name (b ∷ bytes) in
@@ -120,6 +125,7 @@ first_word b bytes is no_blob =
       subst (λ bs. ¬ BeginsBlob bs) run_is.0 no_blob,
     )
 
+-- a mark with a quote behind it begins a lexeme or a fault
 blob_or_bad : (b : ℕ) (bytes digits : List ℕ) → IsBlobMark b → bytes ≡ 39 ∷ digits → HasFirst (b ∷ bytes)
 blob_or_bad b bytes digits mark e =
     let run_is : BeginsRun run.Blob digits (run_of run.Blob digits) (after_run run.Blob digits) = begins_run run.Blob digits in
@@ -136,18 +142,21 @@ blob_or_bad b bytes digits mark e =
       | inr odd ↦ inr (BadBlob, 0, bad_blob (b ∷ bytes) b bytes digits refl mark e (odd_is_no_blob digits (run_of run.Blob digits) (after_run run.Blob digits) run_is odd.1))
     ]
 
+-- what begins a blob is a mark with a quote behind it
 quote_behind : (b : ℕ) (bytes : List ℕ) → BeginsBlob (b ∷ bytes) → BeginsWith 39 bytes
 quote_behind b bytes (mark, behind, is, e) = let same : bytes ≡ 39 ∷ behind = cc in subst (λ bs. BeginsWith 39 bs) (sym same) refl
 
 mark_of : (b : ℕ) (bytes : List ℕ) → BeginsBlob (b ∷ bytes) → IsBlobMark b
 mark_of b bytes (mark, behind, is, e) = let same : b ≡ mark = cc in subst (λ x. IsBlobMark x) (sym same) is
 
+-- a mark begins a lexeme or a fault, with a quote behind it or without
 marked : (b : ℕ) (bytes : List ℕ) → class_of b ≡ Letter → IsBlobMark b → HasFirst (b ∷ bytes)
 marked b bytes is mark = elim (begins_tells 39 bytes) [
   | inl quote ↦ blob_or_bad b bytes quote.0 mark quote.1
   | inr unquoted ↦ first_word b bytes is (λ blob. unquoted (quote_behind b bytes blob))
 ]
 
+-- a letter begins a lexeme or a fault
 first_letter : (b : ℕ) (bytes : List ℕ) → class_of b ≡ Letter → HasFirst (b ∷ bytes)
 first_letter b bytes is = elim (eqb_tells b 120) [
   | inl small ↦ marked b bytes is (inl small.1)
@@ -174,10 +183,12 @@ nothing_spoils : BeginsSpoiler [] → ⊥
 nothing_spoils (inl h) = h
 nothing_spoils (inr h) = h
 
+-- what stands behind digits spoils a number or does not
 spoiler_tells : (rest : List ℕ) → BeginsSpoiler rest ⊎ (¬ BeginsSpoiler rest)
 spoiler_tells [] = inr nothing_spoils
 spoiler_tells (b ∷ rest) = elim (eqb_tells b 46) [ inl point ↦ inl (inl point.1) | inr no_point ↦ spoiler_by b rest (is_in run.Name b) refl no_point.1 ]
 
+-- digits begin a number or a fault
 number_by : (bytes digits rest : List ℕ) → bytes ≡ digits ++ rest → IsDigits digits rest → HasFirst bytes
 number_by bytes digits rest e is = elim (cases_lt greatest_integer (value_of digits)) [
   | inl high ↦ inr (TooLarge, 0, (refl, digits, rest, (e, is), high))
@@ -187,6 +198,7 @@ number_by bytes digits rest e is = elim (cases_lt greatest_integer (value_of dig
   ]
 ]
 
+-- a digit begins a lexeme or a fault
 first_digit : (b : ℕ) (bytes : List ℕ) → class_of b ≡ Digit → HasFirst (b ∷ bytes)
 first_digit b bytes is =
     let run_is : BeginsRun run.Number (b ∷ bytes) (run_of run.Number (b ∷ bytes)) (after_run run.Number (b ∷ bytes)) = begins_run run.Number (b ∷ bytes) in
@@ -200,6 +212,7 @@ quote_kind : (b : ℕ) (bytes rest : List ℕ) → IsQuote b → Skips (IsQuoted
 quote_kind b bytes rest (inl e) skips = first_token kind.QuotedName (b ∷ bytes) skips.0 rest skips.1 (subst (λ q. IsQuoted q skips.0 rest) e skips.2)
 quote_kind b bytes rest (inr e) skips = first_token kind.Text (b ∷ bytes) skips.0 rest skips.1 (subst (λ q. IsQuoted q skips.0 rest) e skips.2)
 
+-- a quote begins a lexeme or a fault
 first_quote : (b : ℕ) (bytes : List ℕ) → class_of b ≡ Quote → HasFirst (b ∷ bytes)
 first_quote b bytes is = elim (literal_ends b bytes bytes (quoted_at_start b bytes)) [
   | inl closed ↦ quote_kind b bytes closed.0 (quote_class b is) closed.1
@@ -210,11 +223,13 @@ first_quote b bytes is = elim (literal_ends b bytes bytes (quoted_at_start b byt
 line_first : (bytes inner : List ℕ) → bytes ≡ 45 ∷ inner → Skips IsBlank (45 ∷ bytes) (after_run run.Line inner)
 line_first bytes inner e = line_comment bytes inner (run_of run.Line inner) (after_run run.Line inner) e (begins_run run.Line inner)
 
+-- `/*` in front is skipped as a blank
 block_first : (bytes inner : List ℕ) → bytes ≡ 42 ∷ inner → (after : List ℕ) × Skips IsBlank (47 ∷ bytes) after
 block_first bytes inner e =
     let ends : (after : List ℕ) × Skips IsBlank (47 ∷ 42 ∷ inner) after = comment_ends inner inner (no_close_at_start inner) in
     (ends.0, subst (λ bs. Skips IsBlank (47 ∷ bs) ends.0) (sym e) ends.1)
 
+-- a minus, a slash and each sign that may be of two characters begin a lexeme or a fault
 first_minus : (bytes : List ℕ) → HasFirst (45 ∷ bytes)
 first_minus bytes = elim (begins_tells 45 bytes) [
   | inl comment ↦ first_blank (45 ∷ bytes) (after_run run.Line comment.0) (line_first bytes comment.0 comment.1)
@@ -245,6 +260,7 @@ first_bar : (bytes : List ℕ) → HasFirst (124 ∷ bytes)
 first_bar bytes = two_signs_or kind.DoubleBar 124 124 bytes (λ rest. refl) (λ alone. inr (Char, 0, inl (refl, inr (inr (inr (refl, alone))))))
 
 module _ (b : ℕ) (bytes : List ℕ) where
+  -- what holds of a byte holds of one that is equal
   as_is : (c : ℕ) → b ≡ c → HasFirst (c ∷ bytes) → HasFirst (b ∷ bytes)
   as_is c e first = subst (λ x. HasFirst (x ∷ bytes)) (sym e) first
 
@@ -252,6 +268,7 @@ module _ (b : ℕ) (bytes : List ℕ) where
   is_or : (c : ℕ) → HasFirst (c ∷ bytes) → (b ≢ c → HasFirst (b ∷ bytes)) → HasFirst (b ∷ bytes)
   is_or c first otherwise = elim (eqb_tells b c) [ inl e ↦ as_is c e.1 first | inr isnt ↦ otherwise isnt.1 ]
 
+  -- a sign begins a lexeme or a fault
   first_sign : is_sign b ≡ true → HasFirst (b ∷ bytes)
   first_sign is =
       is_or 40 (one_sign kind.LeftParen 40 bytes refl) (λ n40.
@@ -270,6 +287,7 @@ module _ (b : ℕ) (bytes : List ℕ) where
       is_or 33 (first_not bytes) (λ n33.
       as_is 124 (bar_is_left b is n40 n41 n44 n46 n43 n45 n42 n47 n37 n59 n61 n60 n62 n33) (first_bar bytes)))))))))))))))
 
+-- a byte begins a lexeme or a fault, whatever its class
 first_by : (b : ℕ) (bytes : List ℕ) (k : Class) → class_of b ≡ k → HasFirst (b ∷ bytes)
 first_by b bytes Space e = first_blank (b ∷ bytes) bytes (one_space (b ∷ bytes) b bytes refl e)
 first_by b bytes Letter e = first_letter b bytes e
@@ -284,10 +302,12 @@ abbrev pub IsWhole : List ℕ → Type 0
 IsWhole bytes = ((ps : List (Piece (Option TokenKind))) × Front IsTokenOrBlank ps bytes [])
     ⊎ ((ps : List (Piece (Option TokenKind))) × (rest : List ℕ) × (fault : LexKind) × (offset : ℕ) × Front IsTokenOrBlank ps bytes rest × IsFlaw fault offset rest)
 
+-- a lexeme in front of a whole text leaves it whole
 with_first : (bytes rest : List ℕ) (k : Option TokenKind) → Skips (IsTokenOrBlank k) bytes rest → IsWhole rest → IsWhole bytes
 with_first bytes rest k skips (inl (ps, front)) = inl (piece k skips.0 ∷ ps, (rest, skips.1, skips.2, front))
 with_first bytes rest k skips (inr (ps, left, fault, offset, front, flaw)) = inr (piece k skips.0 ∷ ps, left, fault, offset, (rest, skips.1, skips.2, front), flaw)
 
+-- each text is whole
 whole : (n : ℕ) (bytes : List ℕ) → length bytes ≤ n → IsWhole bytes
 whole n [] fits = inl ([], refl)
 whole zero (b ∷ bytes) fits = absurd (omega arith)
@@ -297,6 +317,7 @@ whole (suc n) (b ∷ bytes) fits = elim (first_by b bytes (class_of b) refl) [
   | inr flaw ↦ inr ([], b ∷ bytes, flaw.0, flaw.1, refl, flaw.2)
 ]
 
+-- each text has tokens, or it has a fault
 pub each_text : EachTextHasTokensOrFault
 each_text text = elim (whole (length text) text (omega arith)) [
   | inl read ↦ inl (tokens_of 0 read.0, (read.0, read.1, refl))
@@ -311,12 +332,15 @@ unfolding class_of
 quote_has_class b (inl e) = ap class_of e
 quote_has_class b (inr e) = ap class_of e
 
+-- a part of a script begins here
 abbrev pub HasPart : List ℕ → Type 0
 HasPart bytes = (k : Part) × (rest : List ℕ) × Skips (IsPart k) bytes rest
 
+-- a byte that is plain is a part
 plain_part : (b : ℕ) (bytes : List ℕ) → class_of b ≢ Space → class_of b ≢ Quote → b ≢ 59 → ¬ ((b ≡ 45) × BeginsWith 45 bytes) → ¬ ((b ≡ 47) × BeginsWith 42 bytes) → HasPart (b ∷ bytes)
 plain_part b bytes space quote end line block = (Statement, bytes, (b ∷ [], refl, inr (b, refl, ((space, line, block), (λ q. quote (quote_has_class b q)), end))))
 
+-- a byte that is neither a space nor a quote begins a part
 other_part : (b : ℕ) (bytes : List ℕ) → class_of b ≢ Space → class_of b ≢ Quote → HasPart (b ∷ bytes)
 other_part b bytes space quote =
     elim (eqb_tells b 59) [
@@ -338,12 +362,14 @@ other_part b bytes space quote =
           ]
     ]
 
+-- a quote begins a part
 literal_part : (b : ℕ) (bytes : List ℕ) → IsQuote b → HasPart (b ∷ bytes)
 literal_part b bytes is = elim (literal_ends b bytes bytes (quoted_at_start b bytes)) [
   | inl closed ↦ (Statement, closed.0, (closed.1.0, closed.1.1, inl (b, is, inl closed.1.2)))
   | inr never ↦ (Statement, [], open_literal (b ∷ bytes) b bytes refl is never)
 ]
 
+-- a byte begins a part, whatever its class
 part_by : (b : ℕ) (bytes : List ℕ) (k : Class) → class_of b ≡ k → HasPart (b ∷ bytes)
 part_by b bytes Space e = (Blank, bytes, one_space (b ∷ bytes) b bytes refl e)
 part_by b bytes Letter e = other_part b bytes (λ f. cc) (λ f. cc)
@@ -353,6 +379,7 @@ part_by b bytes Quote e = literal_part b bytes (quote_class b e)
 part_by b bytes Sign e = other_part b bytes (λ f. cc) (λ f. cc)
 part_by b bytes Other e = other_part b bytes (λ f. cc) (λ f. cc)
 
+-- each script is parts
 all_parts : (n : ℕ) (bytes : List ℕ) → length bytes ≤ n → (ps : List (Piece Part)) × Front IsPart ps bytes []
 all_parts n [] fits = ([], refl)
 all_parts zero (b ∷ bytes) fits = absurd (omega arith)
@@ -362,5 +389,6 @@ all_parts (suc n) (b ∷ bytes) fits =
     let later : (ps : List (Piece Part)) × Front IsPart ps found.1 [] = all_parts n found.1 (omega arith) in
     (piece found.0 found.2.0 ∷ later.0, (found.1, found.2.1, found.2.2, later.1))
 
+-- each script has statements
 pub each_script : EachScriptHasStatements
 each_script text = let parts = all_parts (length text) text (omega arith) in (spans_of parts.0, (parts.0, parts.1, refl))

@@ -18,6 +18,7 @@ use Rattle.hc_lex.proofs.Classes.{digit_has_class, mark_has_class}
 use Rattle.hc_lex.proofs.FirstLexeme.{Found, blob_in, by_class, closed_by, first_lexeme, found, is_mark, is_spoiler, le_test, quote_34, quote_39, word_kind}
 use Rattle.hc_lex.proofs.Scans.{after_quote-open, after_run, after_run-run, begins_byte, begins_not, both, run_of, run_of-run}
 
+-- the fault that a character of this class begins, with its offset
 abbrev pub flaw_in : Class → ℕ → List ℕ → LexKind × ℕ
 flaw_in Space b bytes = (Char, 0)
 flaw_in Letter b bytes = (BadBlob, 0)
@@ -27,6 +28,7 @@ flaw_in Quote b bytes = (OpenText, 0)
 flaw_in Sign b bytes = (Char, 0)
 flaw_in Other b bytes = (Char, 0)
 
+-- the fault that stands at the front, where one does
 unfoldable pub first_flaw : List ℕ → LexKind × ℕ
 first_flaw [] = (Char, 0)
 first_flaw (b ∷ bytes) = flaw_in (class_of b) b bytes
@@ -35,6 +37,7 @@ first_flaw (b ∷ bytes) = flaw_in (class_of b) b bytes
 abbrev pub IsFound : LexKind → ℕ → List ℕ → Type 0
 IsFound k offset bytes = (first_lexeme bytes ≡ None) × ◌≡◌ {A = LexKind × ℕ} (first_flaw bytes) (k, offset)
 
+-- the fault at the front is that of the first character's class
 flaw_class : (b : ℕ) (bytes : List ℕ) (k : Class) → class_of b ≡ k → ◌≡◌ {A = LexKind × ℕ} (first_flaw (b ∷ bytes)) (flaw_in k b bytes)
 unfolding first_flaw
 flaw_class b bytes k e = ap (λ c. flaw_in c b bytes) e
@@ -43,6 +46,7 @@ flaw_class b bytes k e = ap (λ c. flaw_in c b bytes) e
 moved : (k : LexKind) (offset place : ℕ) (bytes others : List ℕ) → offset ≡ place → bytes ≡ others → IsFound k place others → IsFound k offset bytes
 moved k offset place bytes others e f is = subst (λ o. IsFound k o bytes) (sym e) (subst (λ bs. IsFound k place bs) (sym f) is)
 
+-- the lexeme at `!` is `!=` or none, and that at `|` is `||` or none
 not_found : (bytes : List ℕ) → first_lexeme (33 ∷ bytes) ≡ (if begins_byte 61 bytes then found kind.NotEqual (drop 1 bytes) else None)
 unfolding first_lexeme class_of
 not_found bytes = refl
@@ -51,10 +55,12 @@ bar_found : (bytes : List ℕ) → first_lexeme (124 ∷ bytes) ≡ (if begins_b
 unfolding first_lexeme class_of
 bar_found bytes = refl
 
+-- the fault at `!` and at `|` is the character itself
 sign_flaw : (bytes : List ℕ) → ◌≡◌ {A = LexKind × ℕ} (first_flaw (33 ∷ bytes)) (Char, 0) × ◌≡◌ {A = LexKind × ℕ} (first_flaw (124 ∷ bytes)) (Char, 0)
 unfolding first_flaw class_of
 sign_flaw bytes = (refl, refl)
 
+-- a stray character is the fault that is found
 stray_found : (bytes : List ℕ) → BeginsStray bytes → IsFound Char 0 bytes
 stray_found [] is = absurd is
 stray_found (b ∷ bytes) (inl other) = (by_class b bytes Other other, flaw_class b bytes Other other)
@@ -70,6 +76,7 @@ stray_found (b ∷ bytes) (inr (inr (inr (e, ne)))) =
 abbrev number_by : List ℕ → List ℕ → Found
 number_by digits rest = if nat_le (value_of digits) greatest_integer && not (is_spoiler rest) then found (kind.Integer (value_of digits)) rest else None
 
+-- for digits in front, what is found, and which fault
 number_split : (b : ℕ) (text rest : List ℕ) → IsDigits (b ∷ text) rest → (first_lexeme (b ∷ text ++ rest) ≡ number_by (b ∷ text) rest)
     × ◌≡◌ {A = LexKind × ℕ} (first_flaw (b ∷ text ++ rest)) (if nat_le (value_of (b ∷ text)) greatest_integer then (Char, length (b ∷ text)) else (TooLarge, 0))
 number_split b text rest is =
@@ -87,15 +94,18 @@ or_true : (s t : Bool) → t ≡ true → (s || t) ≡ true
 or_true true t e = refl
 or_true false t e = e
 
+-- a spoiler passes the test
 spoiler_test : (rest : List ℕ) → BeginsSpoiler rest → is_spoiler rest ≡ true
 spoiler_test [] (inl h) = absurd h
 spoiler_test [] (inr h) = absurd h
 spoiler_test (b ∷ rest) (inl e) = ap (λ t. t || is_in run.Name b) (eq-eqb b 46 e)
 spoiler_test (b ∷ rest) (inr e) = or_true (b == 46) (is_in run.Name b) e
 
+-- a value above the greatest fails the test
 too_high : (v : ℕ) → greatest_integer < v → nat_le v greatest_integer ≡ false
 too_high v h = grind (arith, nat_tests)
 
+-- behind a number that is spoiled, the fault that is found is the character there
 spoiled_found : (digits rest : List ℕ) → IsDigits digits rest → value_of digits ≤ greatest_integer → BeginsSpoiler rest → IsFound Char (length digits) (digits ++ rest)
 spoiled_found [] rest is fits spoils = absurd (is.0 refl)
 spoiled_found (b ∷ text) rest is fits spoils =
@@ -105,6 +115,7 @@ spoiled_found (b ∷ text) rest is fits spoils =
       split.1 ∙ ap (λ t. if t then (Char, length (b ∷ text)) else (TooLarge, 0)) (le_test (value_of (b ∷ text)) greatest_integer fits),
     )
 
+-- a number that is too large is the fault that is found
 large_found : (digits rest : List ℕ) → IsDigits digits rest → greatest_integer < value_of digits → IsFound TooLarge 0 (digits ++ rest)
 large_found [] rest is high = absurd (is.0 refl)
 large_found (b ∷ text) rest is high =
@@ -118,6 +129,7 @@ quote_flaw : (bytes : List ℕ) → ◌≡◌ {A = LexKind × ℕ} (first_flaw (
 unfolding first_flaw class_of
 quote_flaw bytes = (refl, refl)
 
+-- a quote that is not closed is the fault that is found
 open_found : (quote : ℕ) (inner : List ℕ) → IsQuote quote → IsFound OpenText 0 (quote ∷ doubled quote inner)
 open_found quote inner (inl e) =
     subst (λ q. IsFound OpenText 0 (q ∷ doubled q inner)) (sym e)
@@ -131,6 +143,7 @@ split_once : (b : ℕ) (front back bytes : List ℕ) (t : Bool) → front ++ bac
 split_once b front back bytes true e = ap (λ bs. b ∷ bs) e
 split_once b front back bytes false e = refl
 
+-- the run at the front and what stands behind it are the bytes
 pub run-split : (k : Run) (bytes : List ℕ) → run_of k bytes ++ after_run k bytes ≡ bytes
 run-split k [] = refl
 run-split k (b ∷ bytes) = split_once b (run_of k bytes) (after_run k bytes) bytes (is_in k b) (run-split k bytes)
@@ -139,14 +152,17 @@ run_once : (k : Run) (b : ℕ) (front : List ℕ) (t : Bool) → is_in k b ≡ t
 run_once k b front true e is = (e, is)
 run_once k b front false e is = tt
 
+-- the run that is found is a run
 pub run_is_run : (k : Run) (bytes : List ℕ) → IsRun k (run_of k bytes)
 run_is_run k [] = tt
 run_is_run k (b ∷ bytes) = run_once k b (run_of k bytes) (is_in k b) refl (run_is_run k bytes)
 
+-- what begins with a quote is a quote and what stands behind it
 behind_quote : (bytes : List ℕ) → begins_byte 39 bytes ≡ true → bytes ≡ 39 ∷ drop 1 bytes
 behind_quote [] e = absurd (false≢true e)
 behind_quote (b ∷ bytes) e = ap (λ x. x ∷ bytes) (eqb-true b 39 e)
 
+-- where no blob stands in front, none is found
 no_blob : (mark : ℕ) (behind : List ℕ) → IsBlobMark mark → ((text rest : List ℕ) → IsBlob text → mark ∷ 39 ∷ behind ≢ text ++ rest) → blob_in behind ≡ None
 no_blob mark behind is ne =
     let digits : List ℕ = run_of run.Blob behind in
@@ -157,6 +173,7 @@ no_blob mark behind is ne =
     ne (mark ∷ 39 ∷ digits ++ 39 ∷ []) (drop 1 after) (mark, digits, is, run_is_run run.Blob behind, eqb-true (length digits % 2) 0 two.0, refl)
     (ap (λ bs. mark ∷ 39 ∷ bs) (sym (run-split run.Blob behind) ∙ ap (λ r. digits ++ r) (behind_quote after two.1) ∙ sym (append_assoc digits (39 ∷ []) (drop 1 after))))))
 
+-- a mark and a quote that begin no blob are the fault that is found
 blob_flaw : (mark : ℕ) (behind : List ℕ) → IsBlobMark mark → ((text rest : List ℕ) → IsBlob text → mark ∷ 39 ∷ behind ≢ text ++ rest) → IsFound BadBlob 0 (mark ∷ 39 ∷ behind)
 blob_flaw mark behind is ne = (
   by_class mark (39 ∷ behind) Letter (mark_has_class mark is)
@@ -165,6 +182,7 @@ blob_flaw mark behind is ne = (
   flaw_class mark (39 ∷ behind) Letter (mark_has_class mark is),
 )
 
+-- what the definition says is a fault is the one that is found
 pub flaw_found : (k : LexKind) (offset : ℕ) (bytes : List ℕ) → IsFlaw k offset bytes → IsFound k offset bytes
 flaw_found Char offset bytes (inl (e, stray)) = moved Char offset 0 bytes bytes e refl (stray_found bytes stray)
 flaw_found Char offset bytes (inr (digits, rest, begins, fits, spoils, e)) =
@@ -179,6 +197,7 @@ nothing_begins : (digits rest : List ℕ) → BeginsDigits [] digits rest → �
 nothing_begins [] rest begins = begins.1.0 refl
 nothing_begins (b ∷ digits) rest begins = let e : [] ≡ b ∷ digits ++ rest = begins.0 in cc
 
+-- no fault stands where the text ends
 pub no_flaw_at_end : (k : LexKind) (offset : ℕ) → IsFlaw k offset [] → ⊥
 no_flaw_at_end Char offset (inl (e, stray)) = stray
 no_flaw_at_end Char offset (inr (digits, rest, begins, fits, spoils, e)) = nothing_begins digits rest begins

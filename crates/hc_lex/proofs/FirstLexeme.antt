@@ -19,16 +19,20 @@ use Rattle.hc_lex.proofs.Classes.{digit_has_class, mark_has_class}
 use Rattle.hc_lex.proofs.Runs.{quote_is_no_hex}
 use Rattle.hc_lex.proofs.Scans.{after_close, after_close-closed, after_close-open, after_quote, after_quote-closed, after_run, after_run-run, begins_byte, begins_is, begins_not, both, run_of, run_of-run}
 
+-- a kind, with what stands behind it, or nothing where none begins
 abbrev pub Found : Type 0
 Found = Option (Option TokenKind × List ℕ)
 
+-- a token of this kind, and `rest` behind it
 abbrev pub found : TokenKind → List ℕ → Found
 found k rest = Some (Some k, rest)
 
+-- the kind of a word: the keyword, or a name where it is none
 abbrev pub word_kind : Option Keyword → TokenKind
 word_kind None = kind.Name
 word_kind (Some k) = kind.Keyword k
 
+-- the blob whose digits these bytes are, where they close it
 abbrev pub blob_in : List ℕ → Found
 blob_in bytes = if (length (run_of run.Blob bytes) % 2 == 0) && begins_byte 39 (after_run run.Blob bytes) then found kind.Blob (drop 1 (after_run run.Blob bytes)) else None
 
@@ -36,27 +40,33 @@ blob_in bytes = if (length (run_of run.Blob bytes) % 2 == 0) && begins_byte 39 (
 abbrev pub is_blob_start : ℕ → List ℕ → Bool
 is_blob_start b bytes = (b == 120 || b == 88) && begins_byte 39 bytes
 
+-- the blob or the word that begins with this letter
 abbrev pub word_in : ℕ → List ℕ → Found
 word_in b bytes =
     if is_blob_start b bytes then blob_in (drop 1 bytes)
     else found (word_kind (keyword_of (run_of run.Name (b ∷ bytes)))) (after_run run.Name (b ∷ bytes))
 
+-- whether what stands behind a number may not follow it
 abbrev pub is_spoiler : List ℕ → Bool
 is_spoiler [] = false
 is_spoiler (b ∷ bytes) = b == 46 || is_in run.Name b
 
+-- the number at the front
 abbrev pub number_in : List ℕ → Found
 number_in bytes =
     if nat_le (value_of (run_of run.Number bytes)) greatest_integer && not (is_spoiler (after_run run.Number bytes))
     then found (kind.Integer (value_of (run_of run.Number bytes))) (after_run run.Number bytes) else None
 
+-- a literal of this kind, where its quote closes
 abbrev pub closed_by : TokenKind → Option (List ℕ) → Found
 closed_by k None = None
 closed_by k (Some rest) = found k rest
 
+-- the text or the quoted name behind this quote
 abbrev pub quoted_in : ℕ → List ℕ → Found
 quoted_in b bytes = closed_by (if b == 34 then kind.QuotedName else kind.Text) (after_quote b false bytes)
 
+-- the sign at the front, or the comment, or nothing
 abbrev pub sign_in : ℕ → List ℕ → Found
 sign_in b bytes =
     if b == 40 then found kind.LeftParen bytes
@@ -76,6 +86,7 @@ sign_in b bytes =
     else (if b == 124 then (if begins_byte 124 bytes then found kind.DoubleBar (drop 1 bytes) else None)
     else None))))))))))))))
 
+-- the lexeme that begins with a character of this class
 abbrev pub lexeme_in : Class → ℕ → List ℕ → Found
 lexeme_in Space b bytes = Some (None, bytes)
 lexeme_in Letter b bytes = word_in b bytes
@@ -85,17 +96,21 @@ lexeme_in Quote b bytes = quoted_in b bytes
 lexeme_in Sign b bytes = sign_in b bytes
 lexeme_in Other b bytes = None
 
+-- the lexeme at the front, or nothing
 unfoldable pub first_lexeme : List ℕ → Found
 first_lexeme [] = None
 first_lexeme (b ∷ bytes) = lexeme_in (class_of b) b bytes
 
+-- the lexeme of this kind is found, with `rest` behind it
 abbrev Finds : List ℕ → Option TokenKind → List ℕ → Type 0
 Finds bytes k rest = first_lexeme bytes ≡ Some (k, rest)
 
+-- the lexeme at the front is that of the first character's class
 pub by_class : (b : ℕ) (bytes : List ℕ) (k : Class) → class_of b ≡ k → first_lexeme (b ∷ bytes) ≡ lexeme_in k b bytes
 unfolding first_lexeme
 by_class b bytes k e = ap (λ c. lexeme_in c b bytes) e
 
+-- the lexeme at a minus or a slash is that of the sign
 sign_45 : (bytes : List ℕ) → first_lexeme (45 ∷ bytes) ≡ sign_in 45 bytes
 unfolding first_lexeme class_of
 sign_45 bytes = refl
@@ -104,6 +119,7 @@ sign_47 : (bytes : List ℕ) → first_lexeme (47 ∷ bytes) ≡ sign_in 47 byte
 unfolding first_lexeme class_of
 sign_47 bytes = refl
 
+-- the lexeme at a quote is the text or the name it begins
 pub quote_34 : (bytes : List ℕ) → first_lexeme (34 ∷ bytes) ≡ quoted_in 34 bytes
 unfolding first_lexeme class_of
 quote_34 bytes = refl
@@ -112,6 +128,7 @@ pub quote_39 : (bytes : List ℕ) → first_lexeme (39 ∷ bytes) ≡ quoted_in 
 unfolding first_lexeme class_of
 quote_39 bytes = refl
 
+-- a space and a comment in front are found
 blank_found : (text rest : List ℕ) → IsBlank text rest → Finds (text ++ rest) None rest
 blank_found text rest (inl (b, is, e)) = ap (λ t. first_lexeme (t ++ rest)) e ∙ by_class b rest Space is
 blank_found text rest (inr (inl (inner, e, is, ends))) =
@@ -135,18 +152,22 @@ quoted_found quote k text rest begins is =
 mark_test : (b : ℕ) → (b == 120 || b == 88) ≡ true → IsBlobMark b
 mark_test b e = grind (arith, nat_tests)
 
+-- a mark passes the test
 pub is_mark : (b : ℕ) → IsBlobMark b → (b == 120 || b == 88) ≡ true
 is_mark b e = grind (arith, nat_tests)
 
+-- a mark and a quote that pass the test begin a blob
 begins_blob : (b : ℕ) (bytes : List ℕ) → (b == 120 || b == 88) ≡ true → begins_byte 39 bytes ≡ true → BeginsBlob (b ∷ bytes)
 begins_blob b [] mark quote = absurd (false≢true quote)
 begins_blob b (c ∷ bytes) mark quote = (b, bytes, mark_test b mark, ap (λ x. b ∷ x ∷ bytes) (begins_is 39 (c ∷ bytes) quote))
 
+-- where no blob begins, the test of one fails
 no_blob_start : (b : ℕ) (bytes : List ℕ) → ¬ BeginsBlob (b ∷ bytes) → is_blob_start b bytes ≡ false
 no_blob_start b bytes ne =
     false_from_ne_true (is_blob_start b bytes)
     (λ e. let two : ((b == 120 || b == 88) ≡ true) × (begins_byte 39 bytes ≡ true) = both (b == 120 || b == 88) (begins_byte 39 bytes) e in ne (begins_blob b bytes two.0 two.1))
 
+-- a word in front is found, with its keyword or as a name
 word_found : (text rest : List ℕ) → IsWord text rest → Finds (text ++ rest) (Some (word_kind (keyword_of text))) rest
 word_found [] rest is = absurd is.0
 word_found (b ∷ text) rest is =
@@ -165,6 +186,7 @@ blob_ends digits rest is even =
     ∙ ap (λ r. if (length digits % 2 == 0) && begins_byte 39 r then found kind.Blob (drop 1 r) else None) rest_is
     ∙ ap (λ t. if t && true then found kind.Blob rest else None) (eq-eqb (length digits % 2) 0 even)
 
+-- a blob in front is found
 blob_found : (text rest : List ℕ) → IsBlob text → Finds (text ++ rest) (Some kind.Blob) rest
 blob_found text rest is =
     ap (λ t. first_lexeme (t ++ rest)) is.5
@@ -179,13 +201,16 @@ neither : (s t : Bool) → (s ≡ true → ⊥) → (t ≡ true → ⊥) → (s 
 neither true t no_s no_t = absurd (no_s refl)
 neither false t no_s no_t = false_from_ne_true t no_t
 
+-- a number that is at most another passes the test
 pub le_test : (a b : ℕ) → a ≤ b → nat_le a b ≡ true
 le_test a b h = grind (arith, nat_tests)
 
+-- what may follow a number fails the test
 no_spoiler : (rest : List ℕ) → ¬ BeginsSpoiler rest → is_spoiler rest ≡ false
 no_spoiler [] ne = refl
 no_spoiler (b ∷ rest) ne = neither (b == 46) (is_in run.Name b) (λ e. ne (inl (eqb-true b 46 e))) (λ e. ne (inr e))
 
+-- a number in front is found
 number_found : (n : ℕ) (text rest : List ℕ) → IsToken (kind.Integer n) text rest → Finds (text ++ rest) (Some (kind.Integer n)) rest
 number_found n [] rest is = absurd (is.0.0 refl)
 number_found n (b ∷ text) rest is =
@@ -198,6 +223,7 @@ number_found n (b ∷ text) rest is =
     ∙ ap (λ t. if t && not (is_spoiler rest) then found (kind.Integer n) rest else None) (le_test n greatest_integer is.3)
     ∙ ap (λ t. if not t then found (kind.Integer n) rest else None) (no_spoiler rest is.1)
 
+-- each token in front is found
 token_found : (k : TokenKind) (text rest : List ℕ) → IsToken k text rest → Finds (text ++ rest) (Some k) rest
 unfolding first_lexeme class_of
 token_found kind.Name text rest is = word_found text rest is.0 ∙ ap (λ o. found (word_kind o) rest) is.1
@@ -233,6 +259,7 @@ token_found kind.NotEqual text rest is = ap (λ t. first_lexeme (t ++ rest)) is
 token_found kind.DoubleBar text rest is = ap (λ t. first_lexeme (t ++ rest)) is
 token_found kind.Semicolon text rest is = ap (λ t. first_lexeme (t ++ rest)) is
 
+-- each token and blank in front is the one that is found
 pub lexeme_found : (k : Option TokenKind) (text rest : List ℕ) → IsTokenOrBlank k text rest → first_lexeme (text ++ rest) ≡ Some (k, rest)
 lexeme_found None text rest is = blank_found text rest is
 lexeme_found (Some k) text rest is = token_found k text rest is

@@ -12,16 +12,19 @@ abbrev pub size_of : {K : Type 0} → List (Piece K) → ℕ
 size_of [] = 0
 size_of (p ∷ ps) = length p.text + size_of ps
 
+-- two findings that are equal have one kind and one rest
 same_told : {K : Type 0} (j k : K) (rest other : List ℕ) → ◌≡◌ {A = Option (K × List ℕ)} (Some (j, rest)) (Some (k, other)) → (j ≡ k) × (rest ≡ other)
 same_told {K} j k rest other e =
     let pair : ◌≡◌ {A = K × List ℕ} (j, rest) (k, other) = cc in
     (ap (λ p. p.0) pair, ap (λ p. p.1) pair)
 
 module _ {K : Type 0} (Is : K → List ℕ → List ℕ → Type 0) where
+  -- with one piece more, the front reaches up to behind it
   pub Front-push : (ps : List (Piece K)) (bytes rest : List ℕ) (kind : K) (text behind : List ℕ) → Front Is ps bytes rest → rest ≡ text ++ behind → Is kind text behind → Front Is (ps ++ piece kind text ∷ []) bytes behind
   Front-push [] bytes rest kind text behind front e is = (behind, front ∙ e, is, refl)
   Front-push (p ∷ ps) bytes rest kind text behind front e is = (front.0, front.1, front.2, Front-push ps front.0 rest kind text behind front.3 e is)
 
+  -- the bytes are as long as the pieces and what stands behind them
   pub Front-size : (ps : List (Piece K)) (bytes rest : List ℕ) → Front Is ps bytes rest → length bytes ≡ size_of ps + length rest
   Front-size [] bytes rest front = omega (arith, ap length front)
   Front-size (p ∷ ps) bytes rest front =
@@ -32,6 +35,7 @@ module _ {K : Type 0} (Is : K → List ℕ → List ℕ → Type 0) where
   abbrev pub Tells : (List ℕ → Option (K × List ℕ)) → Type 0
   Tells first = (kind : K) (text rest : List ℕ) → Is kind text rest → first (text ++ rest) ≡ Some (kind, rest)
 
+  -- where a function tells each piece, the pieces and what is left are the only ones
   pub front_is_one : (first : List ℕ → Option (K × List ℕ)) → Tells first → (ps qs : List (Piece K)) (bytes rest other : List ℕ) → first rest ≡ None → first other ≡ None
       → Front Is ps bytes rest → Front Is qs bytes other → (ps ≡ qs) × (rest ≡ other)
   front_is_one first tells [] [] bytes rest other end_rest end_other one two = (refl, sym one ∙ two)

@@ -16,14 +16,17 @@ use Rattle.hc_lex.proofs.Fronts.{Front-size, size_of}
 use Rattle.hc_lex.proofs.Lengths.{lexeme_length}
 use Rattle.hc_lex.proofs.SpansSoFar.{filter_map-continued, spans_from, spans_from-end, spans_from-nothing, continued-with_place}
 
+-- tokens that ascend from a place do so from any lower one
 lowered : (low at high : ℕ) (tokens : List Token) → low ≤ at → TokensAscend at high tokens → TokensAscend low high tokens
 lowered low at high [] less h = omega arith
 lowered low at high (token ∷ tokens) less h = (omega (arith, h.0), h.1, h.2)
 
+-- and with one token more in front, or none
 one_ahead : (kind : Option TokenKind) (at to high : ℕ) (tokens : List Token) → at < to → TokensAscend to high tokens → TokensAscend at high (token_if kind at to ++ tokens)
 one_ahead None at to high tokens less h = lowered at to high tokens (omega arith) h
 one_ahead (Some k) at to high tokens less h = (omega arith, less, h)
 
+-- the tokens of pieces ascend from the place where they begin
 pieces_ascend : (at : ℕ) (ps : List (Piece (Option TokenKind))) (bytes : List ℕ) → Front IsTokenOrBlank ps bytes [] → TokensAscend at (at + length bytes) (tokens_of at ps)
 pieces_ascend at [] bytes front = omega arith
 pieces_ascend at (p ∷ ps) bytes front =
@@ -34,13 +37,16 @@ pieces_ascend at (p ∷ ps) bytes front =
     subst (λ high. TokensAscend (at + length p.text) high (tokens_of (at + length p.text) ps)) same (pieces_ascend (at + length p.text) ps front.0 front.3) in
     one_ahead p.kind at (at + length p.text) (at + length bytes) (tokens_of (at + length p.text) ps) (omega arith) later
 
+-- the tokens of a text ascend from its start to its end
 pub tokens_ascend : TokensLieInOrder
 tokens_ascend text tokens (ps, front, e) = subst (λ ts. TokensAscend 0 (length text) ts) (sym e) (subst (λ high. TokensAscend 0 high (tokens_of 0 ps)) (let zero_add : 0 + length text ≡ length text = omega arith in zero_add) (pieces_ascend 0 ps text front))
 
+-- statements that ascend from a place do so from any lower one
 spans_lowered : (low at high : ℕ) (spans : List Span) → low ≤ at → SpansAscend at high spans → SpansAscend low high spans
 spans_lowered low at high [] less h = omega arith
 spans_lowered low at high (span ∷ spans) less h = (omega (arith, h.0), h.1, h.2)
 
+-- the last of some places with one more is that one
 last_of-push : (place : ℕ) (places : List ℕ) (at : ℕ) → last_of place (places ++ at ∷ []) ≡ at
 last_of-push place [] at = refl
 last_of-push place (next ∷ places) at = last_of-push next places at
@@ -87,10 +93,12 @@ mutual
             (spans_ascend (last_of place places + 1) (at + 1) parts (omega (arith, is.below))),
       )
 
+-- the parts are as many as the bytes of the pieces
 parts_of-length : (ps : List (Piece Part)) → length (parts_of ps) ≡ size_of ps
 parts_of-length [] = refl
 parts_of-length (p ∷ ps) = length-append (replicate (length p.text) p.kind) (parts_of ps) ∙ ap (λ n. n + length (parts_of ps)) (length-replicate (length p.text) p.kind) ∙ ap (λ n. length p.text + n) (parts_of-length ps)
 
+-- the statements of a text ascend from its start to its end
 pub statements_ascend : StatementsLieInOrder
 statements_ascend text spans (ps, front, e) =
     let high : 0 + length (parts_of ps) ≡ length text = omega (arith, parts_of-length ps, Front-size IsPart ps text [] front) in

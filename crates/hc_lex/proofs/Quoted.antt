@@ -16,9 +16,11 @@ pub record QuotedSoFar (quote : ℕ) (bytes rest : List ℕ) : Type 0 where
   pub inner : List ℕ
   pub whole : bytes ≡ doubled quote inner ++ rest
 
+-- where nothing was read, all that was read stands within the quotes
 pub quoted_at_start : (quote : ℕ) (bytes : List ℕ) → QuotedSoFar quote bytes bytes
 quoted_at_start quote bytes = record { inner = []; whole = refl }
 
+-- one character more is written behind the others
 doubled-push : (quote : ℕ) (inner : List ℕ) (b : ℕ) → doubled quote (inner ++ b ∷ []) ≡ doubled quote inner ++ written quote b
 doubled-push quote inner b = flat_map-append (written quote) inner (b ∷ []) ∙ ap (λ r. doubled quote inner ++ r) (append-nil (written quote b))
 

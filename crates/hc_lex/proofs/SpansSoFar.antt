@@ -20,10 +20,12 @@ continued places (group ∷ groups) = (places ++ group) ∷ groups
 abbrev pub spans_from : ℕ → List ℕ → List Part → List Span
 spans_from at places parts = filter_map span_of (continued places (groups_of at parts))
 
+-- a place more in the first group stands behind the places in front of it
 pub continued-with_place : (places : List ℕ) (at : ℕ) (groups : List (List ℕ)) → continued places (with_place at groups) ≡ continued (places ++ at ∷ []) groups
 continued-with_place places at [] = refl
 continued-with_place places at (group ∷ groups) = ap (λ g. g ∷ groups) (sym (append_assoc places (at ∷ []) group))
 
+-- with no places in front, the groups have the spans they had
 pub filter_map-continued : (groups : List (List ℕ)) → filter_map span_of (continued [] groups) ≡ filter_map span_of groups
 filter_map-continued [] = refl
 filter_map-continued (group ∷ groups) = refl
@@ -33,11 +35,13 @@ abbrev pub range : ℕ → ℕ → List ℕ
 range at zero = []
 range at (suc n) = at ∷ range (at + 1) n
 
+-- behind bytes of blanks, the spans begin so many places on
 pub spans_from-blank : (n at : ℕ) (places : List ℕ) (more : List Part) → spans_from at places (replicate n Blank ++ more) ≡ spans_from (at + n) places more
 spans_from-blank zero at places more = ap (λ k. spans_from k places more) (let e : at ≡ at + 0 = omega arith in e)
 spans_from-blank (suc n) at places more =
     spans_from-blank n (at + 1) places more ∙ ap (λ k. spans_from k places more) (let e : at + 1 + n ≡ at + suc n = omega arith in e)
 
+-- behind bytes of a statement, it goes on with their places
 pub spans_from-own : (n at : ℕ) (places : List ℕ) (more : List Part) → spans_from at places (replicate n Statement ++ more) ≡ spans_from (at + n) (places ++ range at n) more
 spans_from-own zero at places more =
     ap (λ k. spans_from k places more) (let e : at ≡ at + 0 = omega arith in e) ∙ ap (λ ps. spans_from (at + 0) ps more) (sym (append-nil places))
@@ -47,6 +51,7 @@ spans_from-own (suc n) at places more =
     ∙ ap (λ k. spans_from k ((places ++ at ∷ []) ++ range (at + 1) n) more) (let e : at + 1 + n ≡ at + suc n = omega arith in e)
     ∙ ap (λ ps. spans_from (at + suc n) ps more) (append_assoc places (at ∷ []) (range (at + 1) n))
 
+-- at the end of a statement stands its span, and none goes on behind it
 pub spans_from-end : (at : ℕ) (places : List ℕ) (more : List Part) → spans_from at places (Separator ∷ more) ≡ option_to_list (span_of places) ++ spans_from (at + 1) [] more
 spans_from-end at places more =
     ap (λ ps. filter_map span_of (ps ∷ groups_of (at + 1) more)) (append-nil places)
@@ -57,6 +62,7 @@ spans_from-end at places more =
     spans-cons None spans = refl
     spans-cons (Some s) spans = refl
 
+-- where nothing follows, the span that goes on is the only one
 pub spans_from-nothing : (at : ℕ) (places : List ℕ) → spans_from at places [] ≡ option_to_list (span_of places)
 spans_from-nothing at places = ap (λ ps. filter_map span_of (ps ∷ [])) (append-nil places) ∙ only_one (span_of places)
   where
@@ -64,14 +70,17 @@ spans_from-nothing at places = ap (λ ps. filter_map span_of (ps ∷ [])) (appen
     only_one None = refl
     only_one (Some s) = refl
 
+-- the last of so many places from one on
 last_from : (at n : ℕ) → last_of at (range (at + 1) n) ≡ at + n
 last_from at zero = omega arith
 last_from at (suc n) = last_from (at + 1) n ∙ (let e : at + 1 + n ≡ at + suc n = omega arith in e)
 
+-- where places end with n + 1 from a place on, the last is n behind it
 pub last_behind : (place : ℕ) (places : List ℕ) (at n : ℕ) → last_of place (places ++ range at (suc n)) + 1 ≡ at + suc n
 last_behind place [] at n = omega (arith, last_from at n)
 last_behind place (next ∷ places) at n = last_behind next places at n
 
+-- a span with these ends is that span
 same_span : (s : Span) (from to : ℕ) → s.from ≡ from → s.to ≡ to → s ≡ record { from = from; to = to }
 same_span s from to e f = ap (λ k. record s { from = k }) e ∙ ap (λ k. record { from = from; to = k }) f
 
@@ -90,6 +99,7 @@ pub record SpansSoFar (bytes rest : List ℕ) (found : List Span) (unfinished : 
   pub unfinished_is : unfinished ≡ span_of places
   pub spans : (more : List Part) → spans_from 0 [] (parts_of pieces ++ more) ≡ found ++ spans_from (size_of pieces) places more
 
+-- where nothing was read, no statement has begun
 pub no_span_yet : (bytes : List ℕ) (found : List Span) → found ≡ [] → SpansSoFar bytes bytes found None
 no_span_yet bytes found e = record {
   pieces = [];
@@ -99,10 +109,12 @@ no_span_yet bytes found e = record {
   spans = λ more. ap (λ spans. spans ++ spans_from 0 [] more) (sym e);
 }
 
+-- with one piece more, the pieces are longer by it
 size_of-push : (ps : List (Piece Part)) (p : Piece Part) → size_of (ps ++ p ∷ []) ≡ size_of ps + length p.text
 size_of-push [] p = omega arith
 size_of-push (q ∷ ps) p = omega (arith, size_of-push ps p)
 
+-- with one piece more, its parts stand behind the others
 parts_of-push : (ps : List (Piece Part)) (p : Piece Part) → parts_of (ps ++ p ∷ []) ≡ parts_of ps ++ replicate (length p.text) p.kind
 parts_of-push ps p =
     flat_map-append (λ q. replicate (length q.text) q.kind) ps (p ∷ []) ∙ ap (λ parts. parts_of ps ++ parts) (append-nil (replicate (length p.text) p.kind))
@@ -116,6 +128,7 @@ with_piece ps p found places more spans =
     ∙ ap (λ parts. spans_from 0 [] parts) (append_assoc (parts_of ps) (replicate (length p.text) p.kind) more)
     ∙ spans (replicate (length p.text) p.kind ++ more)
 
+-- with a blank more, the same statements have ended and the same one goes on
 pub blank_read : (bytes rest behind : List ℕ) (found : List Span) (unfinished : Option Span) → SpansSoFar bytes rest found unfinished → Skips (IsPart Blank) rest behind → SpansSoFar bytes behind found unfinished
 blank_read bytes rest behind found unfinished s skips =
     let p : Piece Part = piece Blank skips.0 in
@@ -129,6 +142,7 @@ blank_read bytes rest behind found unfinished s skips =
           ∙ ap (λ k. spans_from k s.places more) (sym (size_of-push s.pieces p)));
     }
 
+-- with a piece of a statement more, the one that goes on ends behind it
 pub own_read : (bytes rest behind : List ℕ) (found : List Span) (unfinished : Option Span) (span : Span) (from to : ℕ) → SpansSoFar bytes rest found unfinished → Skips (IsPart Statement) rest behind
     → from ≡ length bytes - length rest → to ≡ length bytes - length behind → span.from ≡ option_map_or (λ s. s.from) unfinished from → span.to ≡ to → length behind < length rest
     → SpansSoFar bytes behind found (Some span)
@@ -149,6 +163,7 @@ own_read bytes rest behind found unfinished span from to s skips from_is to_is s
           ∙ ap (λ k. spans_from k (s.places ++ range (size_of s.pieces) (length skips.0)) more) (sym (size_of-push s.pieces p)));
     }
 
+-- with the end of a statement more, the one that went on has ended
 pub end_read : (bytes rest behind : List ℕ) (found more : List Span) (unfinished : Option Span) → SpansSoFar bytes rest found unfinished → Skips (IsPart Separator) rest behind → more ≡ found ++ option_to_list unfinished → SpansSoFar bytes behind more None
 end_read bytes rest behind found more unfinished s skips more_is =
     let p : Piece Part = piece Separator skips.0 in
@@ -167,6 +182,7 @@ end_read bytes rest behind found more unfinished s skips more_is =
           ∙ ap (λ k. more ++ spans_from k [] later) (ap (λ n. size_of s.pieces + n) (sym one) ∙ sym (size_of-push s.pieces p));
     }
 
+-- where all was read, the found statements and the one that goes on are those of the text
 pub all_cut : (bytes rest : List ℕ) (found all : List Span) (unfinished : Option Span) → SpansSoFar bytes rest found unfinished → length rest ≡ 0 → all ≡ found ++ option_to_list unfinished → HasStatements bytes all
 all_cut bytes rest found all unfinished s e all_is = (
   s.pieces,

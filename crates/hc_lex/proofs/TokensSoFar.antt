@@ -15,9 +15,11 @@ pub record TokensSoFar (bytes rest : List ℕ) (found : List Token) : Type 0 whe
   pub front : Front IsTokenOrBlank pieces bytes rest
   pub tokens : found ≡ tokens_of 0 pieces
 
+-- where nothing was read, no tokens were found
 pub nothing_read : (bytes : List ℕ) (found : List Token) → found ≡ [] → TokensSoFar bytes bytes found
 nothing_read bytes found e = record { pieces = []; front = refl; tokens = e }
 
+-- with one piece more, its token stands behind the others
 tokens_of-push : (at : ℕ) (ps : List (Piece (Option TokenKind))) (p : Piece (Option TokenKind)) → tokens_of at (ps ++ p ∷ []) ≡ tokens_of at ps ++ token_if p.kind (at + size_of ps) (at + size_of ps + length p.text)
 tokens_of-push at [] p =
     append-nil (token_if p.kind at (at + length p.text))
