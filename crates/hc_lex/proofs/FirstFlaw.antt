@@ -1,6 +1,6 @@
 -- A function that finds the fault at the front, where no lexeme begins.
 use Rattle.std.proofs.Common.{◌≡◌, ◌≢◌, ◌∙◌, ◌==◌, ◌&&◌, ◌||◌, ◌<◌, ◌≤◌, ◌%◌, if◌then◌else◌, nat_le, not, Bool, true, false, ℕ, List, [], ◌∷◌, ◌++◌, drop, length, None, inl, inr, refl, sym, ap, append_assoc, arith, subst}
-use Rattle.std.proofs.lemmas.Bool.{eq-eqb, eqb-true, false≢true, false_from_ne_true}
+use Rattle.std.proofs.lemmas.Bool.{eq-eqb, eqb-true, false≢true, false_from_ne_true, or_right}
 use Rattle.std.proofs.lemmas.Bool.Decides.{nat_tests}
 use Rattle.hc_lex.specs.declared.character.Class.{Class}
 use Rattle.hc_lex.specs.declared.character.Class.TheVariants.{Space, Letter, Digit, Dollar, Quote, Sign, Other}
@@ -90,16 +90,12 @@ number_split b text rest is =
           ∙ ap (λ ds. if nat_le (value_of ds) greatest_integer then (Char, length ds) else (TooLarge, 0)) run_is,
     )
 
-or_true : (s t : Bool) → t ≡ true → (s || t) ≡ true
-or_true true t e = refl
-or_true false t e = e
-
 -- a spoiler passes the test
 spoiler_test : (rest : List ℕ) → BeginsSpoiler rest → is_spoiler rest ≡ true
 spoiler_test [] (inl h) = absurd h
 spoiler_test [] (inr h) = absurd h
 spoiler_test (b ∷ rest) (inl e) = ap (λ t. t || is_in run.Name b) (eq-eqb b 46 e)
-spoiler_test (b ∷ rest) (inr e) = or_true (b == 46) (is_in run.Name b) e
+spoiler_test (b ∷ rest) (inr e) = or_right (b == 46) (is_in run.Name b) e
 
 -- a value above the greatest fails the test
 too_high : (v : ℕ) → greatest_integer < v → nat_le v greatest_integer ≡ false
