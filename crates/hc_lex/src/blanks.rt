@@ -1,5 +1,5 @@
 // What may stand between tokens: spaces and comments.
-ghost use Rattle.std.specs.Prelude.{◌≡◌, ◌∷◌, IfSome, IfNone};
+ghost use Rattle.std.specs.Prelude.{◌∷◌, IfSome, IfNone};
 ghost use Rattle.hc_lex.specs.Blanks.{BeginsNoBlank, IsBlank};
 ghost use Rattle.hc_lex.specs.Characters.{BeginsWith};
 ghost use Rattle.hc_lex.specs.Pieces.{Skips};

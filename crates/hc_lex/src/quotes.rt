@@ -1,5 +1,5 @@
 // Texts and quoted names.
-ghost use Rattle.std.specs.Prelude.{◌≡◌, ◌∷◌, IfSome, IfNone};
+ghost use Rattle.std.specs.Prelude.{◌∷◌, IfSome, IfNone};
 ghost use Rattle.hc_lex.specs.Pieces.{Skips};
 ghost use Rattle.hc_lex.specs.Quotes.{IsOpenQuoted, IsQuoted};
 

@@ -1,5 +1,5 @@
 // Words, numbers and blobs: the tokens that are runs of characters.
-ghost use Rattle.std.specs.Prelude.{◌≡◌, ◌≤◌, ◌<◌, ◌∷◌, length, true, false, IfOk, IfErr, IfSome, IfNone};
+ghost use Rattle.std.specs.Prelude.{◌≡◌, ◌≤◌, ◌<◌, length, true, false, IfOk, IfErr, IfSome, IfNone};
 ghost use Rattle.hc_lex.specs.declared.character.Class.TheVariants.{Letter};
 ghost use Rattle.hc_lex.specs.declared.character.Run.TheVariants.{Number};
 ghost use Rattle.hc_lex.specs.Characters.{Begins, GoesOn, IsRun, class_of};
