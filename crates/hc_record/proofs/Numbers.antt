@@ -1,7 +1,7 @@
 -- A number is read as it was written, and what is read as a number is how it is written.
 use Rattle.std.proofs.Common.{◌≡◌, ℕ, zero, suc, ◌+◌, ◌-◌, ◌*◌, ◌/◌, ◌%◌, ◌^◌, ◌<◌, ◌≤◌, true, false, List, [], ◌∷◌, ◌++◌, length, Option, Some, None, Ok, refl, sym, ap, subst, ◌∙◌, append_assoc, arith, inl, inr, nat_lt, ◌⊎◌}
 use Rattle.std.specs.Prelude.{◌==◌}
-use Rattle.std.proofs.lemmas.Bool.{cases_lt, lt-ltb, le-ltb, ltb-true, ltb-false}
+use Rattle.std.proofs.lemmas.Bool.{cases_lt, lt-ltb, le-ltb, ltb-true, ltb-false, eq-eqb}
 use Rattle.std.proofs.lemmas.List.{length-append}
 use Rattle.std.proofs.lemmas.Nat.{shr-shr, shr_split, shr_below, div_below}
 use Rattle.hc_record.specs.Varint.{varint_len, varint, marked, varint_behind}
@@ -89,13 +89,10 @@ length-varint n =
     (λ lt. omega (arith, length-append (marked (varint_len n - 1) (n / 2 ^ 7)) (n % 2 ^ 7 ∷ []), length-marked (varint_len n - 1) (n / 2 ^ 7), len.0))
     (λ le. omega (arith, length-append (marked 8 (n / 2 ^ 8)) (n % 2 ^ 8 ∷ []), length-marked 8 (n / 2 ^ 8), len.3 le))
 
-eq-true : (m n : ℕ) → m ≡ n → (m == n) ≡ true
-eq-true m n same = grind arith
-
 pub number_again : (stop n : ℕ) (rest : List ℕ) → n < 2 ^ 64 → number_at stop (varint n ++ rest) ≡ Ok (n, rest)
 unfolding number_at
 number_again stop n rest fits =
-    let long : (length (varint n ++ rest) == varint_len n + length rest) ≡ true = eq-true _ _ (omega (arith, length-append (varint n) rest, length-varint n)) in
+    let long : (length (varint n ++ rest) == varint_len n + length rest) ≡ true = eq-eqb _ _ (omega (arith, length-append (varint n) rest, length-varint n)) in
     rw (varint_again n rest fits, long) refl
 
 -- ---- what is read is written so

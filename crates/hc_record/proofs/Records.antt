@@ -4,7 +4,7 @@ use Rattle.std.specs.Prelude.{◌==◌, fold, IfOk}
 use Rattle.std.specs.Int.{cast_unsigned, bytes_high_first}
 use Rattle.std.specs.Str.{is_utf8}
 use Rattle.std.proofs.Math.Facts.{sfits_to_z}
-use Rattle.std.proofs.lemmas.Bool.{cases_lt, lt-ltb, le-ltb, ltb-true, ltb-false, eqb-true}
+use Rattle.std.proofs.lemmas.Bool.{cases_lt, lt-ltb, le-ltb, ltb-true, ltb-false, eqb-true, eq-eqb, ne_eqb}
 use Rattle.std.proofs.lemmas.List.{take_at, drop_at, take-append-drop, length-append, length-take, nil_from_length, append-nil}
 use Rattle.std.proofs.lemmas.Str.{IsUtf8-from_is_utf8, is_utf8-from_IsUtf8}
 use Rattle.hc_value.specs.declared.value.Value.{Value}
@@ -24,12 +24,6 @@ use Rattle.hc_record.proofs.Encodings.{length-encoding, all_types_fit}
 
 no_fault : {A : Type 0} (at : ℕ) (kind : Rattle.hc_record.specs.declared.fault.RecordKind.RecordKind) (x : A) → (let no : Read A = fault at kind in no ≡ Ok x) → ⊥
 no_fault at kind x e = cc
-
-eq-true : (m n : ℕ) → m ≡ n → (m == n) ≡ true
-eq-true m n same = grind arith
-
-eq-false : (m n : ℕ) → (m ≡ n → ⊥) → (m == n) ≡ false
-eq-false m n apart = grind arith
 
 -- ---- what is read is written so
 
@@ -79,7 +73,7 @@ number_found stop bytes x fits e =
     (parts, IsBytes-behind (varint x.0) x.1 bytes parts fits)
 
 eqb-false' : (m n : ℕ) → (m == n) ≡ false → m ≡ n → ⊥
-eqb-false' m n e same = cc_false (sym e ∙ eq-true m n same)
+eqb-false' m n e same = cc_false (sym e ∙ eq-eqb m n same)
   where
     cc_false : false ≡ true → ⊥
     cc_false q = cc
@@ -128,7 +122,7 @@ small_read body t long (inr nine) =
 
 long_body : (t : ℕ) → 12 ≤ t → body_len t ≡ (t - 12) / 2
 unfolding body_len
-long_body t le = rw (le-ltb t 5 (omega arith), eq-false t 5 (λ e. omega arith), eq-false t 6 (λ e. omega arith), le-ltb t 12 le) refl
+long_body t le = rw (le-ltb t 5 (omega arith), ne_eqb t 5 (λ e. omega arith), ne_eqb t 6 (λ e. omega arith), le-ltb t 12 le) refl
 
 value_of_found : (type_place place t : ℕ) (body : List ℕ) (v : Value) → IsBytes body → length body ≡ body_len t → is_bad t ≡ false → value_of type_place place t body ≡ Ok v → IsRead body t v
 unfolding value_of
@@ -244,13 +238,13 @@ length-body_of : (v : Value) → length (body_of v) ≡ body_len (type_of v)
 unfolding body_len
 length-body_of Null = refl
 length-body_of (Int n) = length-high_first (body_len (type_of_int n)) (cast_unsigned w64 n)
-length-body_of (Text text) = rw (le-ltb (13 + 2 * length text) 5 (omega arith), eq-false (13 + 2 * length text) 5 (λ e. omega arith), eq-false (13 + 2 * length text) 6 (λ e. omega arith), le-ltb (13 + 2 * length text) 12 (omega arith)) (omega arith)
-length-body_of (Blob bytes) = rw (le-ltb (12 + 2 * length bytes) 5 (omega arith), eq-false (12 + 2 * length bytes) 5 (λ e. omega arith), eq-false (12 + 2 * length bytes) 6 (λ e. omega arith), le-ltb (12 + 2 * length bytes) 12 (omega arith)) (omega arith)
+length-body_of (Text text) = rw (le-ltb (13 + 2 * length text) 5 (omega arith), ne_eqb (13 + 2 * length text) 5 (λ e. omega arith), ne_eqb (13 + 2 * length text) 6 (λ e. omega arith), le-ltb (13 + 2 * length text) 12 (omega arith)) (omega arith)
+length-body_of (Blob bytes) = rw (le-ltb (12 + 2 * length bytes) 5 (omega arith), ne_eqb (12 + 2 * length bytes) 5 (λ e. omega arith), ne_eqb (12 + 2 * length bytes) 6 (λ e. omega arith), le-ltb (12 + 2 * length bytes) 12 (omega arith)) (omega arith)
 
 integer_value_again : (type_place place : ℕ) (z : ℤ) → FitsSigned w64 z → 1 ≤ type_of_int z → type_of_int z ≤ 6 → value_of type_place place (type_of_int z) (body_of (Int z)) ≡ Ok (Int z)
 unfolding value_of
 integer_value_again type_place place z fits one most =
-    rw (eq-false (type_of_int z) 0 (λ e. omega (arith, one)), lt-ltb (type_of_int z) 7 (omega (arith, most)), integer_again z fits most, eq-true (type_of_int z) (type_of_int z) refl) refl
+    rw (ne_eqb (type_of_int z) 0 (λ e. omega (arith, one)), lt-ltb (type_of_int z) 7 (omega (arith, most)), integer_again z fits most, eq-eqb (type_of_int z) (type_of_int z) refl) refl
 
 two_or_more : (n : ℕ) → type_of_int (pos (suc (suc n))) ≡ type_of_magnitude (suc (suc n))
 two_or_more n = rw (le-ltb (suc (suc n)) 2 (omega arith)) refl
@@ -266,10 +260,10 @@ value_of_again type_place place (Int (pos (suc (suc n)))) is =
 value_of_again type_place place (Int (negsuc n)) is = integer_value_again type_place place (negsuc n) is (type_of_magnitude_is n).0 (type_of_magnitude_is n).1
 value_of_again type_place place (Text text) is =
     let odd : (13 + 2 * length text) % 2 ≡ 1 = omega arith in
-    rw (eq-false (13 + 2 * length text) 0 (λ e. omega arith), le-ltb (13 + 2 * length text) 7 (omega arith), le-ltb (13 + 2 * length text) 12 (omega arith), odd, is_utf8-from_IsUtf8 text is) refl
+    rw (ne_eqb (13 + 2 * length text) 0 (λ e. omega arith), le-ltb (13 + 2 * length text) 7 (omega arith), le-ltb (13 + 2 * length text) 12 (omega arith), odd, is_utf8-from_IsUtf8 text is) refl
 value_of_again type_place place (Blob bytes) is =
     let even : (12 + 2 * length bytes) % 2 ≡ 0 = omega arith in
-    rw (eq-false (12 + 2 * length bytes) 0 (λ e. omega arith), le-ltb (12 + 2 * length bytes) 7 (omega arith), le-ltb (12 + 2 * length bytes) 12 (omega arith), even) refl
+    rw (ne_eqb (12 + 2 * length bytes) 0 (λ e. omega arith), le-ltb (12 + 2 * length bytes) 7 (omega arith), le-ltb (12 + 2 * length bytes) 12 (omega arith), even) refl
 
 pub value_again : (end place : ℕ) (v : Value) (rest : List ℕ) → IsValue v → value_at end (place, type_of v) (body_of v ++ rest) ≡ Ok (v, rest)
 unfolding value_at
@@ -278,10 +272,10 @@ value_again end place v rest is =
     rw (le-ltb (length (body_of v ++ rest)) (body_len (type_of v)) (omega (arith, len, length-append (body_of v) rest)), take_at (body_of v) rest (body_len (type_of v)) len, drop_at (body_of v) rest (body_len (type_of v)) len, value_of_again place (end - length (body_of v ++ rest)) v is) refl
 
 below_7 : (t : ℕ) → t ≤ 6 → is_bad t ≡ false
-below_7 t le = rw (eq-false t 7 (λ e. omega (arith, le)), eq-false t 10 (λ e. omega (arith, le)), eq-false t 11 (λ e. omega (arith, le))) refl
+below_7 t le = rw (ne_eqb t 7 (λ e. omega (arith, le)), ne_eqb t 10 (λ e. omega (arith, le)), ne_eqb t 11 (λ e. omega (arith, le))) refl
 
 above_11 : (t : ℕ) → 12 ≤ t → is_bad t ≡ false
-above_11 t le = rw (eq-false t 7 (λ e. omega (arith, le)), eq-false t 10 (λ e. omega (arith, le)), eq-false t 11 (λ e. omega (arith, le))) refl
+above_11 t le = rw (ne_eqb t 7 (λ e. omega (arith, le)), ne_eqb t 10 (λ e. omega (arith, le)), ne_eqb t 11 (λ e. omega (arith, le))) refl
 
 no_bad_type : (v : Value) → is_bad (type_of v) ≡ false
 no_bad_type Null = refl
@@ -352,7 +346,7 @@ record_again values rest are fits =
     append_assoc (varint (header_len (length (types_of values)))) (types_of values ++ bodies_of values) rest
     ∙ ap (λ (l : List ℕ). varint (header_len (length (types_of values))) ++ l) (append_assoc (types_of values) (bodies_of values) rest) in
     ap record_at parts
-    ∙ rw (number_again (length (varint (header_len (length (types_of values))) ++ (types_of values ++ (bodies_of values ++ rest)))) (header_len (length (types_of values))) (types_of values ++ (bodies_of values ++ rest)) (header_fits (length (types_of values)) types), size, eq-true (header_len (length (types_of values))) (header_len (length (types_of values))) refl)
+    ∙ rw (number_again (length (varint (header_len (length (types_of values))) ++ (types_of values ++ (bodies_of values ++ rest)))) (header_len (length (types_of values))) (types_of values ++ (bodies_of values ++ rest)) (header_fits (length (types_of values)) types), size, eq-eqb (header_len (length (types_of values))) (header_len (length (types_of values))) refl)
     (columns_again (length (varint (header_len (length (types_of values))) ++ (types_of values ++ (bodies_of values ++ rest)))) values rest are bodies)
 
 -- ---- all of the bytes
