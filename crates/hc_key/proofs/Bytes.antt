@@ -9,14 +9,17 @@ use Rattle.std.proofs.lemmas.Int.{ints}
 use Rattle.hc_key.specs.Keys.{turned, escaped, ended}
 use Rattle.hc_range.proofs.ByteStrings.{one_byte_more, byte_at-is}
 
+-- the order of byte strings
 abbrev pub bytes_cmp : List ℕ → List ℕ → Ordering
 bytes_cmp = slice_cmp nat_cmp
 
+-- comparisons by one thing after another can be grouped either way
 pub then_assoc : (a b c : Ordering) → ordering_then (ordering_then a b) c ≡ ordering_then a (ordering_then b c)
 then_assoc Less b c = refl
 then_assoc Equal b c = refl
 then_assoc Greater b c = refl
 
+-- a number compared with itself leaves what follows to decide
 pub same_first : (x : ℕ) (o : Ordering) → ordering_then (nat_cmp x x) o ≡ o
 same_first x o = ap (λ (p : Ordering). ordering_then p o) (tied_itself nat_cmp_total x)
 
@@ -51,9 +54,11 @@ numbers_compare (suc k) m n r s =
     ∙ ap (λ (o : Ordering). ordering_then o rest) (quotients_first (m / 256 ^ suc k) (n / 256 ^ suc k) (m / 256 ^ k) (n / 256 ^ k) (one_byte_more m k) (one_byte_more n k))
     ∙ numbers_compare k m n r s
 
+-- two numbers in k bytes, whatever follows them, compare as numbers first
 abbrev pub NumbersCompare : ℕ → ℕ → ℕ → Type 0
 NumbersCompare k m n = (r s : List ℕ) → bytes_cmp (bytes_high_first k m ++ r) (bytes_high_first k n ++ s) ≡ ordering_then (nat_cmp m n) (bytes_cmp r s)
 
+-- numbers of 32 bits compare so in four bytes, those of 64 in eight
 pub four_bytes : (m n : ℕ) → m < 2 ^ 32 → n < 2 ^ 32 → NumbersCompare 4 m n
 four_bytes m n p q r s =
     let a : m / 256 ^ 4 ≡ 0 = omega arith in
@@ -72,26 +77,31 @@ eight_bytes m n p q r s =
 
 -- ---- integers
 
+-- an i64 counted from the least one is a number of 64 bits
 pub turned_fits : (z : ℤ) → FitsSigned w64 z → turned z < 2 ^ 64
 turned_fits (pos n) fits = omega (arith, fits)
 turned_fits (negsuc n) fits = omega (arith, fits)
 
+-- of two i64 the lower is counted to a lower number
 turned_below : (y z : ℤ) → FitsSigned w64 y → FitsSigned w64 z → y <ℤ z → turned y < turned z
 turned_below (pos m) (pos n) p q lt = omega (arith, ints, lt)
 turned_below (pos m) (negsuc n) p q lt = absurd (omega (arith, ints, lt))
 turned_below (negsuc m) (pos n) p q lt = omega (arith, ints, p)
 turned_below (negsuc m) (negsuc n) p q lt = omega (arith, ints, p, q, lt)
 
+-- two i64 are ordered as their counts
 turned_ranks : (y z : ℤ) → FitsSigned w64 y → FitsSigned w64 z → (o : Ordering) → MatchOrdering o (y <ℤ z) (y ≡ z) (z <ℤ y) → MatchOrdering o (turned y < turned z) (turned y ≡ turned z) (turned z < turned y)
 turned_ranks y z p q Less lt = turned_below y z p q lt
 turned_ranks y z p q Equal same = ap turned same
 turned_ranks y z p q Greater gt = turned_below z y q p gt
 
+-- so the comparison of two i64 is that of their counts
 pub turned_compares : (y z : ℤ) → FitsSigned w64 y → FitsSigned w64 z → nat_cmp (turned y) (turned z) ≡ int_cmp y z
 turned_compares y z p q = sym (nat_cmp_is (turned y) (turned z) (int_cmp y z) (turned_ranks y z p q (int_cmp y z) (int_ranked y z (int_cmp y z) refl)))
 
 -- ---- texts and blobs
 
+-- a 0 comes before any other byte, whatever follows the two
 zero_first : (y : ℕ) (a b : List ℕ) → bytes_cmp (0 ∷ a) (suc y ∷ b) ≡ Less
 zero_first y a b = ap (λ (o : Ordering). ordering_then o (bytes_cmp a b)) (sym (nat_cmp_is 0 (suc y) Less (omega arith)))
 
@@ -102,6 +112,7 @@ zero_second x a b = ap (λ (o : Ordering). ordering_then o (bytes_cmp a b)) (sym
 abbrev pub closed : List ℕ → List ℕ
 closed r = 0 ∷ 0 ∷ r
 
+-- two byte strings compare as they did once they are escaped and closed, and then by what follows
 pub escaped_compare : (a b r s : List ℕ) → bytes_cmp (escaped a ++ closed r) (escaped b ++ closed s) ≡ ordering_then (bytes_cmp a b) (bytes_cmp r s)
 escaped_compare [] [] r s = refl
 escaped_compare [] (zero ∷ b) r s = refl
@@ -115,6 +126,7 @@ escaped_compare (suc x ∷ a) (suc y ∷ b) r s =
     ap (λ (o : Ordering). ordering_then (nat_cmp (suc x) (suc y)) o) (escaped_compare a b r s)
     ∙ sym (then_assoc (nat_cmp (suc x) (suc y)) (bytes_cmp a b) (bytes_cmp r s))
 
+-- the same of a text's or a blob's bytes with their end
 pub ended_compare : (a b r s : List ℕ) → bytes_cmp (ended a ++ r) (ended b ++ s) ≡ ordering_then (bytes_cmp a b) (bytes_cmp r s)
 ended_compare a b r s =
     ap (λ (l : List ℕ). bytes_cmp l (ended b ++ s)) (append_assoc (escaped a) (0 ∷ 0 ∷ []) r)

@@ -13,6 +13,7 @@ use Rattle.hc_key.proofs.Bytes.{closed}
 
 -- ---- one byte more
 
+-- after one byte more, what is left to expect is what is expected behind that byte
 pub goes_further : (f e n : Expected) (out : List ℕ) (b : ℕ) → GoesOn f out e → IsNext e b n → GoesOn f (out ++ b ∷ []) n
 goes_further f e n out b goes next x =
     let same : (out ++ b ∷ []) ++ x ≡ out ++ b ∷ x = append_assoc out (b ∷ []) x in (
@@ -20,15 +21,18 @@ goes_further f e n out b goes next x =
       λ h. (next.1 x).1 ((goes (b ∷ x)).1 (subst (Completes f) same h)),
     )
 
+-- one byte more is escaped behind the others
 escaped_more : (out : List ℕ) (b : ℕ) (left : List ℕ) → escaped (out ++ b ∷ []) ++ left ≡ escaped out ++ (escape b ++ left)
 escaped_more out b left =
     ap (λ (l : List ℕ). l ++ left) (flat_map-append escape out (b ∷ []) ∙ ap (λ (l : List ℕ). escaped out ++ l) (append-nil (escape b)))
     ∙ append_assoc (escaped out) (escape b) left
 
+-- where a byte's escape stands next, the bytes begin with what was read and that byte
 pub written_further : (bytes out rest after left : List ℕ) (b : ℕ) → bytes ≡ escaped out ++ rest → rest ≡ b ∷ after → b ∷ after ≡ escape b ++ left → bytes ≡ escaped (out ++ b ∷ []) ++ left
 written_further bytes out rest after left b all first behind =
     all ∙ ap (λ (l : List ℕ). escaped out ++ l) (first ∙ behind) ∙ sym (escaped_more out b left)
 
+-- where the two zeros of the end stand next, what was read is a whole content
 pub all_read : (f e : Expected) (bytes out rest left : List ℕ) → GoesOn f out e → Completes e [] → bytes ≡ escaped out ++ rest → rest ≡ 0 ∷ 0 ∷ left
     → (bytes ≡ ended out ++ left) × Completes f out
 all_read f e bytes out rest left goes done all there = (
@@ -38,6 +42,7 @@ all_read f e bytes out rest left goes done all there = (
 
 -- ---- faults
 
+-- what was read so far begins a content, where more may come
 begins_here : (f e : Expected) (out : List ℕ) → IsOpen e → GoesOn f out e → BeginsOne (IsContent f) (escaped out)
 begins_here f e out alive goes =
     let some = some_completes e alive in (
@@ -49,6 +54,7 @@ begins_here f e out alive goes =
       ),
     )
 
+-- so does it with a 0 behind it, where a byte of 0 may come
 begins_zero : (f e n : Expected) (out : List ℕ) → GoesOn f out e → IsNext e 0 n → BeginsOne (IsContent f) (escaped out ++ 0 ∷ [])
 begins_zero f e n out goes next =
     let some = some_completes n next.0 in (
@@ -83,6 +89,7 @@ behind_read (suc o ∷ out) (suc d ∷ c) r y e =
 abbrev CannotGoOn : Expected → List ℕ → Type 0
 CannotGoOn e y = (d r : List ℕ) → Completes e d → escaped d ++ closed r ≡ y → ⊥
 
+-- where what is expected cannot go on as the bytes do, no content stands at their front
 none_goes_on : (f e : Expected) (out y before : List ℕ) → GoesOn f out e → before ≡ escaped out ++ y → CannotGoOn e y → (one more : List ℕ) → IsContent f one → one ++ more ≡ before → ⊥
 none_goes_on f e out y before goes split cannot one more content same =
     let start : escaped content.0 ++ closed more ≡ escaped out ++ y =
@@ -90,6 +97,7 @@ none_goes_on f e out y before goes split cannot one more content same =
     let found = behind_read out content.0 more y start in
     cannot found.0 more ((goes found.0).1 (subst (Completes f) found.1 content.1)) found.2
 
+-- no content ends where no bytes are left: two zeros end it
 cannot_end : (e : Expected) → CannotGoOn e []
 cannot_end e [] r c h = cc
 cannot_end e (zero ∷ d) r c h = cc
@@ -105,16 +113,19 @@ cannot_refused e (suc b) s no_end refused (zero ∷ d) r c h = let k : 0 ≡ suc
 cannot_refused e (suc b) s no_end refused (suc x ∷ d) r c h =
     let k : suc x ≡ suc b = cc in refused d (subst (λ (a : ℕ). Completes e (a ∷ d)) k c)
 
+-- nor where a single 0 is left
 cannot_zero_end : (e : Expected) → CannotGoOn e (0 ∷ [])
 cannot_zero_end e [] r c h = cc
 cannot_zero_end e (zero ∷ d) r c h = cc
 cannot_zero_end e (suc b ∷ d) r c h = let k : suc b ≡ 0 = cc in omega (arith, k)
 
+-- nor does one go on where behind a 0 stands neither 0 nor FF
 cannot_zero_other : (e : Expected) (x : ℕ) (s : List ℕ) → (x ≡ 0 → ⊥) → (x ≡ 255 → ⊥) → CannotGoOn e (0 ∷ x ∷ s)
 cannot_zero_other e x s p q [] r c h = p cc
 cannot_zero_other e x s p q (zero ∷ d) r c h = q cc
 cannot_zero_other e x s p q (suc b ∷ d) r c h = let k : suc b ≡ 0 = cc in omega (arith, k)
 
+-- bytes that end within a content are at fault at their end
 pub fault_at_end : (f e : Expected) (bytes out rest : List ℕ) → IsOpen e → GoesOn f out e → bytes ≡ escaped out ++ rest → rest ≡ [] → IsFaultOf (IsContent f) bytes (length (escaped out))
 fault_at_end f e bytes out rest alive goes all none = (
   escaped out,
@@ -125,6 +136,7 @@ fault_at_end f e bytes out rest alive goes all none = (
   none_goes_on f e out [] (escaped out) goes (sym (append-nil (escaped out))) (cannot_end e),
 )
 
+-- a refused byte is at fault where it stands
 pub fault_at_byte : (f e : Expected) (bytes out rest after : List ℕ) (b : ℕ) → IsOpen e → GoesOn f out e → bytes ≡ escaped out ++ rest → rest ≡ b ∷ after → (b < 128 → Completes e [] → ⊥) → IsRefused e b → IsFaultOf (IsContent f) bytes (length (escaped out))
 fault_at_byte f e bytes out rest after b alive goes all first no_end refused = (
   escaped out,
@@ -135,6 +147,7 @@ fault_at_byte f e bytes out rest after b alive goes all first no_end refused = (
   λ one more s content same. none_goes_on f e out (b ∷ s) (escaped out ++ b ∷ s) goes refl (cannot_refused e b s no_end refused) one more content same,
 )
 
+-- a byte behind a 0 that is neither 0 nor FF is at fault, and so is an end there
 pub fault_behind_zero : (f e n : Expected) (bytes out rest after : List ℕ) → GoesOn f out e → IsNext e 0 n → bytes ≡ escaped out ++ rest → rest ≡ 0 ∷ after
     → ((l : List ℕ) → after ≡ 0 ∷ l → ⊥) → ((l : List ℕ) → after ≡ 255 ∷ l → ⊥) → IsFaultOf (IsContent f) bytes (length (escaped out) + 1)
 fault_behind_zero f e n bytes out rest after goes next all first p q = (
@@ -159,9 +172,11 @@ placed f bytes left place step fault is long there =
     let here : step ≡ length bytes - length left = omega arith in
     subst (IsPartFault (IsContent f) bytes place) (sym is) (length bytes - length left, refl, subst (IsFaultOf (IsContent f) bytes) here there)
 
+-- the bytes are as many as those that were read and those that are left
 pub length-read : (bytes out rest : List ℕ) → bytes ≡ escaped out ++ rest → length bytes ≡ length (escaped out) + length rest
 length-read bytes out rest all = ap length all ∙ length-append (escaped out) rest
 
+-- a list of no length is empty
 pub empty : (l : List ℕ) → length l ≡ 0 → l ≡ []
 empty [] none = refl
 empty (x ∷ l) none = absurd (omega (arith, none))

@@ -20,9 +20,11 @@ use Rattle.hc_range.proofs.ByteStrings.{IsBytes, IsBytes-padded, IsBytes-take}
 
 -- ---- values by their classes
 
+-- bytes that begin with a text and its end
 abbrev pub TextOf : List ℕ → List ℕ → Type 0
 TextOf more y = (c : List ℕ) × IsUtf8 c × (ended c ++ more ≡ y)
 
+-- a value that begins with a 3 goes on with a text, and one with a 4 with a blob
 class_three : (v : Value) (more y : List ℕ) → IsValue v → value_bytes v ++ more ≡ 3 ∷ y → (c : List ℕ) × Completes Character c × (ended c ++ more ≡ y)
 unfolding value_bytes
 class_three Null more y is e = let h : ◌≡◌ {A = ℕ} 1 3 = cc in absurd (omega (arith, h))
@@ -37,6 +39,7 @@ class_four (Int n) more y is e = let h : ◌≡◌ {A = ℕ} 2 4 = cc in absurd 
 class_four (Text c) more y is e = let h : ◌≡◌ {A = ℕ} 3 4 = cc in absurd (omega (arith, h))
 class_four (Blob b) more y is e = (b, tt, cc)
 
+-- one that begins with a 2 goes on with an integer
 class_two : (v : Value) (more y : List ℕ) → value_bytes v ++ more ≡ 2 ∷ y → (n : ℤ) × (bytes_high_first 8 (turned n) ++ more ≡ y)
 unfolding value_bytes
 class_two Null more y e = let h : ◌≡◌ {A = ℕ} 1 2 = cc in absurd (omega (arith, h))
@@ -44,6 +47,7 @@ class_two (Int n) more y e = (n, cc)
 class_two (Text c) more y e = let h : ◌≡◌ {A = ℕ} 3 2 = cc in absurd (omega (arith, h))
 class_two (Blob b) more y e = let h : ◌≡◌ {A = ℕ} 4 2 = cc in absurd (omega (arith, h))
 
+-- a value's first byte is one of 1 to 4
 some_class : (v : Value) (more y : List ℕ) (b : ℕ) → value_bytes v ++ more ≡ b ∷ y → (1 ≤ b) × (b ≤ 4)
 unfolding value_bytes
 some_class Null more y b e = let h : 1 ≡ b = cc in (omega (arith, h), omega (arith, h))
@@ -51,6 +55,7 @@ some_class (Int n) more y b e = let h : 2 ≡ b = cc in (omega (arith, h), omega
 some_class (Text c) more y b e = let h : 3 ≡ b = cc in (omega (arith, h), omega (arith, h))
 some_class (Blob c) more y b e = let h : 4 ≡ b = cc in (omega (arith, h), omega (arith, h))
 
+-- a 3 and a text are a value, and so are a 4 and a blob
 text_part : (c : List ℕ) → Completes Character c → IsValuePart (3 ∷ ended c)
 unfolding value_bytes
 text_part c text = (Text c, text, refl)
@@ -67,6 +72,7 @@ IsClassOf k f =
     ((c : List ℕ) → Completes f c → IsValuePart (k ∷ ended c))
     × ((v : Value) (more y : List ℕ) → IsValue v → value_bytes v ++ more ≡ k ∷ y → (c : List ℕ) × Completes f c × (ended c ++ more ≡ y))
 
+-- where no content goes on so, no value of the class does
 none_behind : (k : ℕ) (f : Expected) → IsClassOf k f → (before after : List ℕ) → NoneGoesOn (IsContent f) before after → NoneGoesOn IsValuePart (k ∷ before) after
 none_behind k f is before [] none = λ one more part same.
     let found = is.1 part.0 more before part.1 (ap (λ (l : List ℕ). l ++ more) part.2 ∙ same) in
@@ -75,6 +81,7 @@ none_behind k f is before (b ∷ after) none = λ one more rest part same.
     let found = is.1 part.0 more (before ++ b ∷ rest) part.1 (ap (λ (l : List ℕ). l ++ more) part.2 ∙ same) in
     none (ended found.0) more rest (found.0, found.1, refl) found.2
 
+-- a fault in a content is one in its value, a byte later
 behind_class : (k : ℕ) (f : Expected) → IsClassOf k f → (rest : List ℕ) (step : ℕ) → IsFaultOf (IsContent f) rest step → IsFaultOf IsValuePart (k ∷ rest) (step + 1)
 behind_class k f is rest step fault =
     let begins = fault.4 in
@@ -87,16 +94,19 @@ behind_class k f is rest step fault =
       none_behind k f is fault.0 fault.1 fault.5,
     )
 
+-- the same of a fault whose place is told from the beginning of the key
 part_fault : (k : ℕ) (f : Expected) → IsClassOf k f → (rest : List ℕ) (place : ℕ) (fault : KeyFault) → IsPartFault (IsContent f) rest (place + 1) fault → IsPartFault IsValuePart (k ∷ rest) place fault
 part_fault k f is rest place (Bad at) h = (h.0 + 1, omega (arith, h.1), behind_class k f is rest h.0 h.2)
 part_fault k f is rest place NoMemory h = tt
 
+-- a fault in a text is that of its value, and so is one in a blob
 pub text_fault : (rest : List ℕ) (place : ℕ) (fault : KeyFault) → IsPartFault (IsContent Character) rest (place + 1) fault → IsPartFault IsValuePart (3 ∷ rest) place fault
 text_fault = part_fault 3 Character (text_part, class_three)
 
 pub blob_fault : (rest : List ℕ) (place : ℕ) (fault : KeyFault) → IsPartFault (IsContent Any) rest (place + 1) fault → IsPartFault IsValuePart (4 ∷ rest) place fault
 blob_fault = part_fault 4 Any (blob_part, class_four)
 
+-- a text that was read is a value, written as these bytes; the same of a blob, and of NULL
 pub text_found : (out t rest left : List ℕ) → t ≡ out → (rest ≡ ended out ++ left) × IsUtf8 out → IsValue (Text t) × (3 ∷ rest ≡ value_bytes (Text t) ++ left)
 unfolding value_bytes
 text_found out t rest left same found =
@@ -113,6 +123,7 @@ null_found rest = refl
 
 -- ---- integers
 
+-- four bytes are a number of 32 bits, and eight one of 64
 pub number_fits_4 : (bytes : List ℕ) → IsBytes bytes → from_be_bytes w32 bytes < 2 ^ 32
 number_fits_4 bytes are = omega (arith, are 0, are 1, are 2, are 3)
 
@@ -127,23 +138,28 @@ some_integer m lt =
       | inr high ↦ (pos (m - 2 ^ 63), omega arith, omega arith)
     ]
 
+-- the bytes with zeros behind them, up to a width
 abbrev pub padded : ℕ → List ℕ → List ℕ
 padded width bytes = bytes ++ replicate (width - length bytes) 0
 
+-- padded bytes are as many as the width
 pub length-padded : (width : ℕ) (bytes : List ℕ) → length bytes ≤ width → length (padded width bytes) ≡ width
 length-padded width bytes short = length-append bytes (replicate (width - length bytes) 0) ∙ (let e : length bytes + length (replicate (width - length bytes) 0) ≡ width = omega (arith, short, length-replicate {A = ℕ} (width - length bytes) 0) in e)
 
+-- fewer than eight bytes behind a 2 are no integer
 no_integer : (rest : List ℕ) → length rest < 8 → NoneGoesOn IsValuePart (2 ∷ rest) []
 no_integer rest short one more part same =
     let found = class_two part.0 more rest (ap (λ (l : List ℕ). l ++ more) part.2 ∙ same) in
     omega (arith, short, ap length found.1, length-append (bytes_high_first 8 (turned found.0)) more)
 
+-- a 2 and any eight bytes are a value
 integer_part : (bytes : List ℕ) → length bytes ≡ 8 → IsBytes bytes → IsValuePart (2 ∷ bytes)
 unfolding value_bytes
 integer_part bytes long are =
     let some = some_integer (from_be_bytes w64 bytes) (number_fits_8 bytes are) in
     (Int some.0, some.1, ap (λ (l : List ℕ). 2 ∷ l) (be_bytes_8 bytes (turned some.0) long are some.2))
 
+-- an integer that is cut off is at fault at the end of the bytes
 pub integer_fault : (rest : List ℕ) (place : ℕ) → IsBytes rest → length rest < 8 → IsPartFault IsValuePart (2 ∷ rest) place (Bad (place + 1 + length rest))
 integer_fault rest place are short = (
   1 + length rest,
@@ -158,6 +174,7 @@ integer_fault rest place are short = (
   ),
 )
 
+-- eight bytes that were read behind a 2 are an integer, written as these bytes
 pub integer_found : (z y : ℤ) (rest bytes left : List ℕ) → z ≡ y → FitsSigned w64 y → IsBytes rest → 8 ≤ length rest → bytes ≡ take 8 rest → left ≡ drop 8 rest → turned y ≡ from_be_bytes w64 bytes
     → IsValue (Int z) × (2 ∷ rest ≡ value_bytes (Int z) ++ left)
 unfolding value_bytes
@@ -170,10 +187,12 @@ integer_found z y rest bytes left same fits are long first second number =
 
 -- ---- other first bytes
 
+-- a 1 is a value
 null_part : IsValuePart (1 ∷ [])
 unfolding value_bytes
 null_part = (Null, tt, refl)
 
+-- a first byte that is no class is at fault
 pub class_fault : (b : ℕ) (rest : List ℕ) (place : ℕ) → ((1 ≤ b) × (b ≤ 4) → ⊥) → IsPartFault IsValuePart (b ∷ rest) place (Bad place)
 class_fault b rest place not = (
   0,
@@ -188,6 +207,7 @@ class_fault b rest place not = (
   ),
 )
 
+-- a value has some bytes
 pub some_value_bytes : (v : Value) → 0 < length (value_bytes v)
 unfolding value_bytes
 some_value_bytes Null = omega arith

@@ -21,16 +21,19 @@ use Rattle.hc_key.proofs.Order.{values_compare, nothing_first, keys_compare}
 abbrev pub TiesAreSame : Type 0
 TiesAreSame = (a b : Value) → (value_order a b ≡ Equal) ↔ (a ≡ b)
 
+-- a value ties with itself
 tied_value : TiesAreSame → (v : Value) → value_order v v ≡ Equal
 tied_value ties v = (ties v v).1 refl
 
 -- ---- different lists have different keys
 
+-- two comparisons that tie together tie each
 pub both_tied : (a b : Ordering) → ordering_then a b ≡ Equal → (a ≡ Equal) × (b ≡ Equal)
 both_tied Less b e = absurd cc
 both_tied Equal b e = (refl, e)
 both_tied Greater b e = absurd cc
 
+-- one key stands for one tree number and one list
 pub keys_differ : TiesAreSame → (t u : ℕ) (v w : List Value) → t < 2 ^ 32 → u < 2 ^ 32 → AreValues v → AreValues w → key_bytes t v ≡ key_bytes u w → (t ≡ u) × (v ≡ w)
 keys_differ ties t u v w tf uf p q e =
     let tie : byte_order (key_bytes t v) (key_bytes u w) ≡ Equal = subst (λ (k : List ℕ). bytes_cmp (key_bytes t v) k ≡ Equal) e (tied_itself nat_list_cmp_total (key_bytes t v)) in
@@ -49,6 +52,7 @@ within_first Less a b p q = absurd (true≢false p)
 within_first Equal a b p q = (refl, p, q)
 within_first Greater a b p q = absurd (false≢true q)
 
+-- a value's bytes come before FF
 pub below_top : (w : Value) (s : List ℕ) → bytes_cmp (value_bytes w ++ s) (255 ∷ []) ≡ Less
 unfolding value_bytes
 below_top Null s = refl
@@ -56,12 +60,14 @@ below_top (Int n) s = refl
 below_top (Text t) s = refl
 below_top (Blob b) s = refl
 
+-- a list and the end of a range compare by their first values, and then by the rests
 more_top : (v w : Value) (vs ws : List Value) → IsValue v → IsValue w
     → bytes_cmp (list_bytes (w ∷ ws)) (topped (list_bytes (v ∷ vs))) ≡ ordering_then (value_order w v) (bytes_cmp (list_bytes ws) (topped (list_bytes vs)))
 more_top v w vs ws p q =
     ap (λ (k : List ℕ). bytes_cmp (list_bytes (w ∷ ws)) k) (append_assoc (value_bytes v) (list_bytes vs) (255 ∷ []))
     ∙ values_compare w v (list_bytes ws) (topped (list_bytes vs)) q p
 
+-- a list between these values and their end begins with them
 pub begins_from : TiesAreSame → (v w : List Value) → AreValues v → AreValues w → is_lt (bytes_cmp (list_bytes w) (list_bytes v)) ≡ false → is_lt (bytes_cmp (list_bytes w) (topped (list_bytes v))) ≡ true → BeginsWith w v
 begins_from ties [] w p q low high = (w, refl)
 begins_from ties (v ∷ vs) [] p q low high = absurd (true≢false (sym (ap is_lt (nothing_first v (list_bytes vs))) ∙ low))
@@ -73,6 +79,7 @@ begins_from ties (v ∷ vs) (w ∷ ws) p q low high =
     let first : w ≡ v = (ties w v).0 parts.0 in
     (more.0, ap (λ (x : Value). x ∷ ws) first ∙ ap (λ (l : List Value). v ∷ l) more.1)
 
+-- a list that begins with these values is not below them, but below their end
 pub begins_low : TiesAreSame → (v rest : List Value) → AreValues v → AreValues (v ++ rest) → is_lt (bytes_cmp (list_bytes (v ++ rest)) (list_bytes v)) ≡ false
 begins_low ties [] [] p q = refl
 begins_low ties [] (w ∷ ws) p q = not_below (value_bytes w ++ list_bytes ws)
@@ -93,6 +100,7 @@ begins_high ties (v ∷ vs) rest p q =
     ∙ ap (λ (o : Ordering). is_lt (ordering_then o (bytes_cmp (list_bytes (vs ++ rest)) (topped (list_bytes vs))))) (tied_value ties v)
     ∙ begins_high ties vs rest p.1 q.1
 
+-- a key and the beginning of a range compare by their trees and then their lists; the same of the end
 tree_low : (u t : ℕ) (w v : List Value) → u < 2 ^ 32 → t < 2 ^ 32 → is_below (key_bytes u w) (key_bytes t v) ≡ is_lt (ordering_then (nat_cmp u t) (bytes_cmp (list_bytes w) (list_bytes v)))
 unfolding is_below key_bytes
 tree_low u t w v uf tf = ap is_lt (four_bytes u t uf tf (list_bytes w) (list_bytes v))
@@ -103,6 +111,7 @@ tree_high u t w v uf tf =
     ap (λ (k : List ℕ). is_lt (bytes_cmp (bytes_high_first 4 u ++ list_bytes w) k)) (append_assoc (bytes_high_first 4 t) (list_bytes v) (255 ∷ []))
     ∙ ap is_lt (four_bytes u t uf tf (list_bytes w) (topped (list_bytes v)))
 
+-- the range of a prefix holds exactly the keys of its tree whose lists begin with its values
 pub range_holds : TiesAreSame → (t : ℕ) (v : List Value) → t < 2 ^ 32 → AreValues v → HoldsPrefixed (range_of t v) t v
 range_holds ties t v tf p u w uf q = (there, back)
   where

@@ -22,20 +22,24 @@ use Rattle.hc_range.proofs.ByteStrings.{IsBytes, IsBytes-padded, IsBytes-take}
 
 -- ---- bytes that begin with the same key
 
+-- the same bytes tie, and bytes that tie are the same
 tie_from_same : (a b : List ℕ) → a ≡ b → bytes_cmp a b ≡ Equal
 tie_from_same a b e = subst (λ (k : List ℕ). bytes_cmp a k ≡ Equal) e (tied_itself nat_list_cmp_total a)
 
 same_bytes : (a b : List ℕ) → bytes_cmp a b ≡ Equal → a ≡ b
 same_bytes = slice_cmp-IsAntisymmetric nat_cmp-IsAntisymmetric
 
+-- where the same bytes begin with two values, the values are one, and so are the rests
 same_value : TiesAreSame → (v w : Value) (r s : List ℕ) → IsValue v → IsValue w → value_bytes v ++ r ≡ value_bytes w ++ s → (v ≡ w) × (r ≡ s)
 same_value ties v w r s p q e =
     let both = both_tied (value_order v w) (bytes_cmp r s) (sym (values_compare v w r s p q) ∙ tie_from_same (value_bytes v ++ r) (value_bytes w ++ s) e) in
     ((ties v w).0 both.0, same_bytes r s both.1)
 
+-- the list goes on behind v with values whose bytes are y
 abbrev Behind : List Value → List Value → List ℕ → Type 0
 Behind w v y = (more : List Value) × (w ≡ v ++ more) × AreValues more × (list_bytes more ≡ y)
 
+-- where the bytes of one list begin with those of another, so does the list
 list_behind : TiesAreSame → (v w : List Value) (y : List ℕ) → AreValues v → AreValues w → list_bytes w ≡ list_bytes v ++ y → Behind w v y
 list_behind ties [] w y p q e = (w, refl, q, e)
 list_behind ties (v ∷ vs) [] y p q e =
@@ -49,6 +53,7 @@ list_behind ties (v ∷ vs) (w ∷ ws) y p q e =
     let rest : Behind ws vs y = list_behind ties vs ws y p.1 q.1 both.1 in
     (rest.0, ap (λ (x : Value). x ∷ ws) both.0 ∙ ap (λ (l : List Value). v ∷ l) rest.1, rest.2, rest.3)
 
+-- the same of the lists of two keys
 key_behind : TiesAreSame → (t u : ℕ) (v w : List Value) (y : List ℕ) → t < 2 ^ 32 → u < 2 ^ 32 → AreValues v → AreValues w → key_bytes u w ≡ key_bytes t v ++ y → Behind w v y
 unfolding key_bytes
 key_behind ties t u v w y tf uf p q e =
@@ -59,30 +64,36 @@ key_behind ties t u v w y tf uf p q e =
 
 -- ---- one value more
 
+-- a key with one value more has that value's bytes behind
 key_push : (t : ℕ) (v : List Value) (w : Value) → key_bytes t (v ++ w ∷ []) ≡ key_bytes t v ++ value_bytes w
 unfolding key_bytes
 key_push t v w =
     ap (λ (l : List ℕ). bytes_high_first 4 t ++ l) (flat_map-append value_bytes v (w ∷ []) ∙ ap (λ (l : List ℕ). list_bytes v ++ l) (append-nil (value_bytes w)))
     ∙ sym (append_assoc (bytes_high_first 4 t) (list_bytes v) (value_bytes w))
 
+-- values with one value more are values
 pub are_more : (v : List Value) (w : Value) → AreValues v → IsValue w → AreValues (v ++ w ∷ [])
 are_more [] w are is = (is, tt)
 are_more (x ∷ v) w are is = (are.0, are_more v w are.1 is)
 
+-- behind one value more, the key was read that far
 pub read_more : (t : ℕ) (v : List Value) (w : Value) (key left after : List ℕ) → key ≡ key_bytes t v ++ left → left ≡ value_bytes w ++ after → key ≡ key_bytes t (v ++ w ∷ []) ++ after
 read_more t v w key left after all first =
     all ∙ ap (λ (l : List ℕ). key_bytes t v ++ l) first
     ∙ sym (ap (λ (l : List ℕ). l ++ after) (key_push t v w) ∙ append_assoc (key_bytes t v) (value_bytes w) after)
 
+-- where nothing is left, the key is what was read
 pub all_read : (t : ℕ) (v : List Value) (key left : List ℕ) → key ≡ key_bytes t v ++ left → length left ≡ 0 → key ≡ key_bytes t v
 all_read t v key [] all none = all ∙ append-nil (key_bytes t v)
 all_read t v key (b ∷ left) all none = absurd (omega (arith, none))
 
+-- a key is as long as what was read and what is left
 pub length-behind : (t : ℕ) (v : List Value) (key left : List ℕ) → key ≡ key_bytes t v ++ left → length key ≡ length (key_bytes t v) + length left
 length-behind t v key left all = ap length all ∙ length-append (key_bytes t v) left
 
 -- ---- the fault of a value in its key
 
+-- where no value goes on as the bytes do, no key that begins with what was read does
 none_in_key : TiesAreSame → (t : ℕ) (v : List Value) (before after : List ℕ) → t < 2 ^ 32 → AreValues v → 0 < length (before ++ after) → NoneGoesOn IsValuePart before after → NoKeyGoesOn (key_bytes t v ++ before) after
 none_in_key ties t v before [] tf are some none = λ key.
     let found = key_behind ties t key.0 v key.1 before tf key.2 are key.3 key.4 in
@@ -101,6 +112,7 @@ none_in_key ties t v before (b ∷ after) tf are some none = λ begins.
     by_list before b after rest none [] are e = omega (arith, ap length e, length-append before (b ∷ rest))
     by_list before b after rest none (w ∷ ws) are e = none (value_bytes w) (list_bytes ws) rest (w, are.0, refl) e
 
+-- a fault in the next value is one of the key, behind what was read
 value_fault : TiesAreSame → (t : ℕ) (v : List Value) (key left : List ℕ) (step : ℕ) → t < 2 ^ 32 → AreValues v → key ≡ key_bytes t v ++ left → 0 < length left → IsFaultOf IsValuePart left step → IsFaultAt key (length (key_bytes t v) + step)
 value_fault ties t v key left step tf are all some fault =
     let begins = fault.4 in
@@ -122,6 +134,7 @@ value_fault ties t v key left step tf are all some fault =
       none_in_key ties t v fault.0 fault.1 tf are (subst (λ (l : List ℕ). 0 < length l) fault.2 some) fault.5,
     )
 
+-- the same of a fault whose place is told from the beginning of the key
 pub part_in_key : TiesAreSame → (t : ℕ) (v : List Value) (key left : List ℕ) (place : ℕ) (fault : KeyFault) → t < 2 ^ 32 → AreValues v → key ≡ key_bytes t v ++ left → 0 < length left
     → place ≡ length (key_bytes t v) → IsPartFault IsValuePart left place fault → IsKeyFault key fault
 part_in_key ties t v key left place (Bad at) tf are all some here h =
@@ -130,6 +143,7 @@ part_in_key ties t v key left place NoMemory tf are all some here h = tt
 
 -- ---- the number of the tree
 
+-- a key whose first four bytes are a tree's number begins with the key of that tree and no values
 pub tree_read : (t : ℕ) (key bytes rest : List ℕ) → IsBytes key → 4 ≤ length key → bytes ≡ take 4 key → rest ≡ drop 4 key → t ≡ from_be_bytes w32 bytes → key ≡ key_bytes t [] ++ rest
 unfolding key_bytes
 tree_read t key bytes rest are long first second number =
@@ -138,10 +152,12 @@ tree_read t key bytes rest are long first second number =
     let written : bytes_high_first 4 t ≡ bytes = be_bytes_4 bytes t four bytes_are number in
     sym (take-append-drop 4 key) ∙ sym (ap (λ (l : List ℕ). l ++ rest) (append-nil (bytes_high_first 4 t) ∙ written ∙ first) ∙ ap (λ (l : List ℕ). take 4 key ++ l) second)
 
+-- a key has four bytes and those of its values
 length-key : (t : ℕ) (v : List Value) → length (key_bytes t v) ≡ 4 + length (list_bytes v)
 unfolding key_bytes
 length-key t v = length-append (bytes_high_first 4 t) (list_bytes v)
 
+-- fewer than four bytes begin a key
 begins_short : (key : List ℕ) → IsBytes key → length key < 4 → BeginsKey key
 unfolding key_bytes
 begins_short key are short =
@@ -156,6 +172,7 @@ begins_short key are short =
       ),
     )
 
+-- fewer than four bytes are at fault at their end
 pub short_fault : (key : List ℕ) → IsBytes key → length key < 4 → IsFaultAt key (length key)
 short_fault key are short = (
   key,
