@@ -5,6 +5,7 @@ use Rattle.std.proofs.lemmas.Bool.{cases_lt, lt-ltb, le-ltb}
 use Rattle.hc_record.specs.Varint.{varint_len}
 use Rattle.hc_record.specs.Record.{header_len}
 
+-- how many bytes a number takes, by its size: one below 2 ^ 7, and one more for each seven bits, up to five
 len_1 : (n : ℕ) → n < 2 ^ 7 → varint_len n ≡ 1
 unfolding varint_len
 len_1 n lt = rw (lt-ltb n (2 ^ 7) lt) refl
@@ -35,6 +36,7 @@ settled types a b first (inr more) =
     let one : varint_len (types + varint_len types) ≡ b = ap (λ (n : ℕ). varint_len (types + n)) first ∙ more.0 in
     ap (λ (n : ℕ). varint_len (types + n)) one ∙ more.1 ∙ sym one
 
+-- counted with the bytes of its own length, a header's length takes just as many
 counts_itself : (types : ℕ) → types < 2 ^ 32 → varint_len (types + varint_len (types + varint_len types)) ≡ varint_len (types + varint_len types)
 counts_itself types fits =
     elim (cases_lt types (2 ^ 7)) [
@@ -54,6 +56,7 @@ counts_itself types fits =
           ]
     ]
 
+-- a header's length without its own bytes is the length of the types
 pub header_len-types : (types : ℕ) → types < 2 ^ 32 → header_len types - varint_len (header_len types) ≡ types
 unfolding header_len
 header_len-types types fits = omega (arith, counts_itself types fits)

@@ -11,9 +11,11 @@ use Rattle.hc_record.proofs.Steps.{either_way, chosen}
 
 -- ---- how many bytes a number takes
 
+-- a length in bytes that suits the number: one to nine, of seven bits each below 2 ^ 56, else nine
 abbrev pub IsLength : ℕ → ℕ → Type 0
 IsLength n len = (1 ≤ len) × (len ≤ 9) × (n < 2 ^ 56 → (len ≤ 8) × (n < 2 ^ (7 * len))) × (2 ^ 56 ≤ n → len ≡ 9)
 
+-- the length of a varint suits its number
 pub varint_len_is : (n : ℕ) → IsLength n (varint_len n)
 unfolding varint_len
 varint_len_is n =
@@ -34,9 +36,11 @@ varint_len_is n =
 
 -- ---- what is written is read again
 
+-- a number above k + 1 groups is that above k groups without its lowest group
 one_group_more : (n k : ℕ) → n / 2 ^ (7 * suc k) ≡ n / 2 ^ (7 * k) / 2 ^ 7
 one_group_more n k = ap (λ (e : ℕ). n / 2 ^ e) (let e : 7 * suc k ≡ 7 * k + 7 = omega arith in e) ∙ sym (shr-shr n (7 * k) 7)
 
+-- a number is put together again from its lowest group and what stands above
 whole : (n : ℕ) → n / 2 ^ 7 * 2 ^ 7 + n % 2 ^ 7 ≡ n
 whole n = shr_split n 7
 
@@ -53,9 +57,11 @@ marked_again (suc k) j (suc f) n rest e =
     let next : n / 2 ^ (7 * suc k) * 2 ^ 7 + ((128 + n / 2 ^ (7 * k) % 2 ^ 7) - 128) ≡ n / 2 ^ (7 * k) = rw (one_group_more n k) (omega (arith, whole (n / 2 ^ (7 * k)))) in
     rw (is_marked, next) (marked_again k j f n rest (omega arith))
 
+-- above k bits of a number below 2 ^ k stands nothing
 nothing_above : (n k : ℕ) → n < 2 ^ k → n / 2 ^ k ≡ 0
 nothing_above n k lt = omega (arith, div_below n (2 ^ k) 1 (omega arith) (omega (arith, lt)))
 
+-- a varint is read to its number, and what follows it is left
 pub varint_again : (n : ℕ) (rest : List ℕ) → n < 2 ^ 64 → varint_behind 8 0 (varint n ++ rest) ≡ Some (n, rest)
 unfolding varint
 varint_again n rest fits =
@@ -77,10 +83,12 @@ varint_again n rest fits =
           (marked_again 8 0 8 (n / 2 ^ 8) (n % 2 ^ 8 ∷ rest) refl ∙ rw (shr_split n 8) refl))
     ]
 
+-- k marked groups are k bytes
 pub length-marked : (k n : ℕ) → length (marked k n) ≡ k
 length-marked zero n = refl
 length-marked (suc k) n = ap suc (length-marked k n)
 
+-- a varint is as long as its length says
 pub length-varint : (n : ℕ) → length (varint n) ≡ varint_len n
 unfolding varint
 length-varint n =
@@ -89,6 +97,7 @@ length-varint n =
     (λ lt. omega (arith, length-append (marked (varint_len n - 1) (n / 2 ^ 7)) (n % 2 ^ 7 ∷ []), length-marked (varint_len n - 1) (n / 2 ^ 7), len.0))
     (λ le. omega (arith, length-append (marked 8 (n / 2 ^ 8)) (n % 2 ^ 8 ∷ []), length-marked 8 (n / 2 ^ 8), len.3 le))
 
+-- a number that was written is read again, with no fault
 pub number_again : (stop n : ℕ) (rest : List ℕ) → n < 2 ^ 64 → number_at stop (varint n ++ rest) ≡ Ok (n, rest)
 unfolding number_at
 number_again stop n rest fits =
@@ -105,9 +114,11 @@ pub record IsFound (f above : ℕ) (bytes : List ℕ) (n : ℕ) (rest : List ℕ
   pub before : above ≡ n / 2 ^ s / 2 ^ (7 * k)
   pub parts : bytes ≡ marked k (n / 2 ^ s) ++ n % 2 ^ s ∷ rest
 
+-- findings that are the same found the same
 some_same : (x y : ℕ × List ℕ) → (let one : ℕ × List ℕ → Option (ℕ × List ℕ) = λ a. Some a in one x ≡ one y) → x ≡ y
 some_same x y e = cc
 
+-- what is read as a number stands there in marked groups and a last byte
 pub varint_found : (f above : ℕ) (bytes : List ℕ) (x : ℕ × List ℕ) → IsBytes bytes → varint_behind f above bytes ≡ Some x → IsFound f above bytes x.0 x.1
 varint_found f above [] x fits e = absurd (none e)
   where

@@ -22,14 +22,17 @@ use Rattle.hc_record.proofs.Types.{Read, type_is_number, values_first, then_valu
 use Rattle.hc_record.proofs.Headers.{header_len-types}
 use Rattle.hc_record.proofs.Encodings.{length-encoding, all_types_fit}
 
+-- a fault is no success
 no_fault : {A : Type 0} (at : ℕ) (kind : Rattle.hc_record.specs.declared.fault.RecordKind.RecordKind) (x : A) → (let no : Read A = fault at kind in no ≡ Ok x) → ⊥
 no_fault at kind x e = cc
 
 -- ---- what is read is written so
 
+-- what stands behind the front of some bytes is bytes
 IsBytes-behind : (a b bytes : List ℕ) → bytes ≡ a ++ b → IsBytes bytes → IsBytes b
 IsBytes-behind a b bytes parts fits = subst IsBytes (ap (drop (length a)) parts ∙ drop_at a b (length a) refl) (IsBytes-drop (length a) bytes fits)
 
+-- a number that was found in as many bytes as it takes is written so
 number_parts : (bytes : List ℕ) (n : ℕ) (rest : List ℕ) → IsFound 8 0 bytes n rest → length bytes ≡ varint_len n + length rest → bytes ≡ varint n ++ rest
 unfolding varint
 number_parts bytes n rest r long =
@@ -58,6 +61,7 @@ number_parts bytes n rest r long =
     by_nine : (n : ℕ) → varint_len n ≡ 9 → 2 ^ 56 ≤ n
     by_nine n nine = elim (cases_lt n (2 ^ 56)) [ inl lt ↦ absurd (omega (arith, ((varint_len_is n).2 lt).0)) | inr le ↦ le ]
 
+-- the same, from a reading that told no fault
 number_among_found : (stop : ℕ) (bytes : List ℕ) (o : Option (ℕ × List ℕ)) (x : ℕ × List ℕ) → IsBytes bytes → varint_behind 8 0 bytes ≡ o → number_among stop bytes o ≡ Ok x → bytes ≡ varint x.0 ++ x.1
 number_among_found stop bytes None x fits is e = absurd (no_fault stop Short x e)
 number_among_found stop bytes (Some (n, rest)) x fits is e =
@@ -66,18 +70,21 @@ number_among_found stop bytes (Some (n, rest)) x fits is e =
       | inr long ↦ absurd (no_fault (stop - length bytes) Spelling x long.1)
     ]
 
+-- a number that was read is written so, and what is left is bytes
 pub number_found : (stop : ℕ) (bytes : List ℕ) (x : ℕ × List ℕ) → IsBytes bytes → number_at stop bytes ≡ Ok x → (bytes ≡ varint x.0 ++ x.1) × IsBytes x.1
 unfolding number_at
 number_found stop bytes x fits e =
     let parts = number_among_found stop bytes (varint_behind 8 0 bytes) x fits refl e in
     (parts, IsBytes-behind (varint x.0) x.1 bytes parts fits)
 
+-- numbers whose test is false differ
 eqb-false' : (m n : ℕ) → (m == n) ≡ false → m ≡ n → ⊥
 eqb-false' m n e same = cc_false (sym e ∙ eq-eqb m n same)
   where
     cc_false : false ≡ true → ⊥
     cc_false q = cc
 
+-- an odd type from 12 on is that of a text of its body's length
 odd_type : (t len : ℕ) → 12 ≤ t → len ≡ (t - 12) / 2 → (t % 2 ≡ 0 → ⊥) → 13 + 2 * len ≡ t
 odd_type t len le is odd =
     elim (cases_lt (t % 2) 1) [ inl lt ↦ absurd (odd (omega (arith, lt))) | inr ge ↦ omega (arith, ge, is, le) ]
@@ -86,23 +93,28 @@ odd_type t len le is odd =
 abbrev IsRead : List ℕ → ℕ → Value → Type 0
 IsRead body t v = (body ≡ body_of v) × (type_of v ≡ t) × IsValue v
 
+-- a body of no length is empty
 without_body : (body : List ℕ) (t : ℕ) → body_len t ≡ 0 → length body ≡ body_len t → body ≡ []
 without_body body t none long = nil_from_length body (long ∙ none)
 
+-- a type from 7 to 11 that is not bad is 8 or 9
 zero_or_one : (t : ℕ) → 7 ≤ t → t < 12 → is_bad t ≡ false → (t ≡ 8) ⊎ (t ≡ 9)
 zero_or_one t le lt good = grind arith
 
+-- what is read from at most eight bytes is an i64
 integer_fits : (body : List ℕ) → IsBytes body → length body ≤ 8 → FitsSigned w64 (integer_of body)
 integer_fits body fits short =
     let fit : Fits w64 (fold behind_byte (bits_above body) body) = omega (arith, bits_fit body fits short) in
     sfits_to_z {w = w64} {n = fold behind_byte (bits_above body) body} fit
 
+-- 0 and 1 are i64
 zero_fits : FitsSigned w64 (pos 0)
 zero_fits = search rules
 
 one_fits : FitsSigned w64 (pos 1)
 one_fits = search rules
 
+-- what was read with type 0 is NULL; with the type of the body's integer, that integer; with 8 or 9, 0 or 1
 null_read : (body : List ℕ) (t : ℕ) → t ≡ 0 → length body ≡ body_len t → IsRead body t Null
 unfolding body_len
 null_read body t none long = (nil_from_length body (long ∙ ap body_len none), sym none, tt)
@@ -120,10 +132,12 @@ small_read body t long (inl eight) =
 small_read body t long (inr nine) =
     subst (λ (n : ℕ). IsRead body n (Int (cond (n == 9) (pos 1) (pos 0)))) (sym nine) (nil_from_length body (subst (λ (n : ℕ). length body ≡ body_len n) nine long), refl, one_fits)
 
+-- a type from 12 on has a body of half of what it is above 12
 long_body : (t : ℕ) → 12 ≤ t → body_len t ≡ (t - 12) / 2
 unfolding body_len
 long_body t le = rw (le-ltb t 5 (omega arith), ne_eqb t 5 (λ e. omega arith), ne_eqb t 6 (λ e. omega arith), le-ltb t 12 le) refl
 
+-- a value that was read from a body has that body and that type
 value_of_found : (type_place place t : ℕ) (body : List ℕ) (v : Value) → IsBytes body → length body ≡ body_len t → is_bad t ≡ false → value_of type_place place t body ≡ Ok v → IsRead body t v
 unfolding value_of
 value_of_found type_place place t body v fits long good e =
@@ -154,6 +168,7 @@ value_of_found type_place place t body v fits long good e =
           ]
     ]
 
+-- the same of a value at the front of some bytes, and what is left is bytes
 value_found : (end place t : ℕ) (bytes : List ℕ) (x : Value × List ℕ) → IsBytes bytes → is_bad t ≡ false → value_at end (place, t) bytes ≡ Ok x → (bytes ≡ body_of x.0 ++ x.1) × (type_of x.0 ≡ t) × IsValue x.0 × IsBytes x.1
 unfolding value_at
 value_found end place t bytes x fits good e =
@@ -199,6 +214,7 @@ values_found (suc most) stop end (b ∷ types) bytes all x within fits bytes_fit
       (first.2, others.2),
     )
 
+-- values that were read behind a header are written so, with their types in as many bytes as the header says
 columns_found : (end size : ℕ) (bytes : List ℕ) (x : List Value × List ℕ) → IsBytes bytes → columns_at end size bytes ≡ Ok x → (length (types_of x.0) ≡ size) × (bytes ≡ types_of x.0 ++ (bodies_of x.0 ++ x.1)) × AreValues x.0
 unfolding columns_at values_of_types types_at
 columns_found end size bytes x fits e =
@@ -214,6 +230,7 @@ columns_found end size bytes x fits e =
           )
     ]
 
+-- a record that was read at the front of some bytes is written so
 pub record_found : (bytes : List ℕ) (x : List Value × List ℕ) → IsBytes bytes → record_at bytes ≡ Ok x → (bytes ≡ encoding x.0 ++ x.1) × AreValues x.0
 unfolding record_at encoding
 record_found bytes x fits e =
@@ -234,6 +251,7 @@ record_found bytes x fits e =
 
 -- ---- what is written is read again
 
+-- a body is as long as the value's type says
 length-body_of : (v : Value) → length (body_of v) ≡ body_len (type_of v)
 unfolding body_len
 length-body_of Null = refl
@@ -241,14 +259,17 @@ length-body_of (Int n) = length-high_first (body_len (type_of_int n)) (cast_unsi
 length-body_of (Text text) = rw (le-ltb (13 + 2 * length text) 5 (omega arith), ne_eqb (13 + 2 * length text) 5 (λ e. omega arith), ne_eqb (13 + 2 * length text) 6 (λ e. omega arith), le-ltb (13 + 2 * length text) 12 (omega arith)) (omega arith)
 length-body_of (Blob bytes) = rw (le-ltb (12 + 2 * length bytes) 5 (omega arith), ne_eqb (12 + 2 * length bytes) 5 (λ e. omega arith), ne_eqb (12 + 2 * length bytes) 6 (λ e. omega arith), le-ltb (12 + 2 * length bytes) 12 (omega arith)) (omega arith)
 
+-- an integer with a body is read again from its type and its body
 integer_value_again : (type_place place : ℕ) (z : ℤ) → FitsSigned w64 z → 1 ≤ type_of_int z → type_of_int z ≤ 6 → value_of type_place place (type_of_int z) (body_of (Int z)) ≡ Ok (Int z)
 unfolding value_of
 integer_value_again type_place place z fits one most =
     rw (ne_eqb (type_of_int z) 0 (λ e. omega (arith, one)), lt-ltb (type_of_int z) 7 (omega (arith, most)), integer_again z fits most, eq-eqb (type_of_int z) (type_of_int z) refl) refl
 
+-- an integer from 2 on has the type of its size
 two_or_more : (n : ℕ) → type_of_int (pos (suc (suc n))) ≡ type_of_magnitude (suc (suc n))
 two_or_more n = rw (le-ltb (suc (suc n)) 2 (omega arith)) refl
 
+-- a value is read again from its type and its body
 value_of_again : (type_place place : ℕ) (v : Value) → IsValue v → value_of type_place place (type_of v) (body_of v) ≡ Ok v
 unfolding value_of body_len
 value_of_again type_place place Null is = refl
@@ -265,18 +286,21 @@ value_of_again type_place place (Blob bytes) is =
     let even : (12 + 2 * length bytes) % 2 ≡ 0 = omega arith in
     rw (ne_eqb (12 + 2 * length bytes) 0 (λ e. omega arith), le-ltb (12 + 2 * length bytes) 7 (omega arith), le-ltb (12 + 2 * length bytes) 12 (omega arith), even) refl
 
+-- the same where more bytes follow
 pub value_again : (end place : ℕ) (v : Value) (rest : List ℕ) → IsValue v → value_at end (place, type_of v) (body_of v ++ rest) ≡ Ok (v, rest)
 unfolding value_at
 value_again end place v rest is =
     let len = length-body_of v in
     rw (le-ltb (length (body_of v ++ rest)) (body_len (type_of v)) (omega (arith, len, length-append (body_of v) rest)), take_at (body_of v) rest (body_len (type_of v)) len, drop_at (body_of v) rest (body_len (type_of v)) len, value_of_again place (end - length (body_of v ++ rest)) v is) refl
 
+-- a type up to 6 is not bad, and neither is one from 12 on
 below_7 : (t : ℕ) → t ≤ 6 → is_bad t ≡ false
 below_7 t le = rw (ne_eqb t 7 (λ e. omega (arith, le)), ne_eqb t 10 (λ e. omega (arith, le)), ne_eqb t 11 (λ e. omega (arith, le))) refl
 
 above_11 : (t : ℕ) → 12 ≤ t → is_bad t ≡ false
 above_11 t le = rw (ne_eqb t 7 (λ e. omega (arith, le)), ne_eqb t 10 (λ e. omega (arith, le)), ne_eqb t 11 (λ e. omega (arith, le))) refl
 
+-- no value has a bad type
 no_bad_type : (v : Value) → is_bad (type_of v) ≡ false
 no_bad_type Null = refl
 no_bad_type (Int (pos zero)) = refl
@@ -286,10 +310,12 @@ no_bad_type (Int (negsuc n)) = below_7 (type_of_magnitude n) (type_of_magnitude_
 no_bad_type (Text text) = above_11 (13 + 2 * length text) (omega arith)
 no_bad_type (Blob bytes) = above_11 (12 + 2 * length bytes) (omega arith)
 
+-- a value's type is read again
 type_again : (stop : ℕ) (v : Value) (rest : List ℕ) → type_of v < 2 ^ 64 → type_at stop (varint (type_of v) ++ rest) ≡ Ok (type_of v, rest)
 unfolding type_at
 type_again stop v rest fits = rw (number_again stop (type_of v) rest fits, no_bad_type v) refl
 
+-- the type of a value whose body is below 2 ^ 32 bytes is a number of 64 bits
 type_fits : (v : Value) → length (body_of v) < 2 ^ 32 → type_of v < 2 ^ 64
 type_fits Null fits = omega arith
 type_fits (Int (pos zero)) fits = omega arith
@@ -299,18 +325,22 @@ type_fits (Int (negsuc n)) fits = omega (arith, (type_of_magnitude_is n).1)
 type_fits (Text text) fits = omega (arith, fits)
 type_fits (Blob bytes) fits = omega (arith, fits)
 
+-- of no types no values are read
 none_again : (stop end : ℕ) (rest : List ℕ) → values_of_types stop end [] rest ≡ Ok ([], rest)
 unfolding values_of_types types_at
 none_again stop end rest = refl
 
+-- a value before others that were read
 abbrev put_first : Value → List Value × List ℕ → Read (List Value × List ℕ)
 put_first v others = Ok (v ∷ others.0, others.1)
 
+-- where the others are read again, so are they with a value before them
 with_first : (stop end : ℕ) (v : Value) (values : List Value) (rest : List ℕ) → values_of_types stop end (types_of values) (bodies_of values ++ rest) ≡ Ok (values, rest)
     → ((types_at stop (types_of values) >>= λ all. values_at end all (bodies_of values ++ rest)) >>= put_first v) ≡ Ok (v ∷ values, rest)
 unfolding values_of_types
 with_first stop end v values rest e = ap (λ (r : Read (List Value × List ℕ)). r >>= put_first v) e
 
+-- values are read again from their types and their bodies
 values_again : (stop end : ℕ) (values : List Value) (rest : List ℕ) → AreValues values → length (bodies_of values) < 2 ^ 32 → values_of_types stop end (types_of values) (bodies_of values ++ rest) ≡ Ok (values, rest)
 values_again stop end [] rest are fits = none_again stop end rest
 values_again stop end (v ∷ values) rest are fits =
@@ -325,16 +355,19 @@ values_again stop end (v ∷ values) rest are fits =
     ∙ sym (through (types_at stop (types_of values)) (λ all. values_at end all (bodies_of values ++ rest)) (λ others. (v ∷ others.0, others.1)))
     ∙ with_first stop end v values rest (values_again stop end values rest are.1 (omega (arith, long, fits)))
 
+-- the same from types and bodies that stand one behind the other
 columns_again : (end : ℕ) (values : List Value) (rest : List ℕ) → AreValues values → length (bodies_of values) < 2 ^ 32 → columns_at end (length (types_of values)) (types_of values ++ (bodies_of values ++ rest)) ≡ Ok (values, rest)
 unfolding columns_at
 columns_again end values rest are fits =
     rw (le-ltb (length (types_of values ++ (bodies_of values ++ rest))) (length (types_of values)) (omega (arith, length-append (types_of values) (bodies_of values ++ rest))), take_at (types_of values) (bodies_of values ++ rest) (length (types_of values)) refl, drop_at (types_of values) (bodies_of values ++ rest) (length (types_of values)) refl)
     (values_again (end - length (bodies_of values ++ rest)) end values rest are fits)
 
+-- a header's length is a number of 64 bits
 header_fits : (types : ℕ) → types < 2 ^ 32 → header_len types < 2 ^ 64
 unfolding header_len
 header_fits types fits = omega (arith, (varint_len_is (types + varint_len types)).1)
 
+-- a record is read again, and what follows it is left
 pub record_again : (values : List Value) (rest : List ℕ) → AreValues values → length (encoding values) < 2 ^ 32 → record_at (encoding values ++ rest) ≡ Ok (values, rest)
 unfolding record_at encoding
 record_again values rest are fits =
@@ -351,6 +384,7 @@ record_again values rest are fits =
 
 -- ---- all of the bytes
 
+-- bytes that are read as a record are its encoding
 pub reading_found : (bytes : List ℕ) (values : List Value) → IsBytes bytes → reading bytes ≡ Ok values → AreValues values × (bytes ≡ encoding values)
 unfolding reading
 reading_found bytes values fits e =
@@ -364,16 +398,19 @@ reading_found bytes values fits e =
       | inr tail ↦ absurd (no_fault (length bytes - length a.0.1) Tail values tail.1)
     ]
 
+-- the encoding of values is read as these values
 pub reading_again : (values : List Value) → AreValues values → length (encoding values) < 2 ^ 32 → reading (encoding values) ≡ Ok values
 unfolding reading
 reading_again values are fits =
     let e : record_at (encoding values) ≡ Ok (values, []) = ap record_at (sym (append-nil (encoding values))) ∙ record_again values [] are fits in
     ap (λ (r : Read (List Value × List ℕ)). r >>= λ found. cond (length found.1 == 0) (Ok found.0) (fault (length (encoding values) - length found.1) Tail)) e
 
+-- what was given of a reading that went through is values, and the bytes are their encoding
 pub is_found : (bytes : List ℕ) (r : Read (List Value)) → IsBytes bytes → Gives (λ found. found) r (reading bytes) → IfOk r (λ values. AreValues values × (bytes ≡ encoding values))
 is_found bytes (Ok values) fits given = reading_found bytes values fits given
 is_found bytes (Err e) fits given = tt
 
+-- where the same bytes begin with two records, the lists are one, and so are the rests
 pub none_begins_another : (v w : List Value) (rest more : List ℕ) → AreValues v → AreValues w → length (encoding v) < 2 ^ 32 → length (encoding w) < 2 ^ 32 → encoding v ++ rest ≡ encoding w ++ more → (v ≡ w) × (rest ≡ more)
 none_begins_another v w rest more v_are w_are v_fits w_fits same =
     let e : (v, rest) ≡ (w, more) = ok_same (v, rest) (w, more) (sym (record_again v rest v_are v_fits) ∙ ap record_at same ∙ record_again w more w_are w_fits) in

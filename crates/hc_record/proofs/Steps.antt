@@ -15,6 +15,7 @@ pub chosen : {A : Type 0} (b : Bool) (x y z : A) → cond b x y ≡ z → ((b �
 chosen true x y z e = inl (refl, e)
 chosen false x y z e = inr (refl, e)
 
+-- two successes that are the same gave the same
 pub ok_same : {A : Type 0} (x y : A) → (let done : A → Result A RecordFault = λ a. Ok a in done x ≡ done y) → x ≡ y
 ok_same x y e = cc
 

@@ -21,12 +21,15 @@ use Rattle.hc_record.proofs.Records.{record_found, record_again}
 abbrev NoTail : {A : Type 0} → Read A → Type 0
 NoTail r = (at : ℕ) → r ≡ Err (Bad at Tail) → ⊥
 
+-- a success tells no Tail
 ok_no_tail : {A : Type 0} (x : A) → NoTail (let done : Read A = Ok x in done)
 ok_no_tail x at e = cc
 
+-- errors that are the same are of one fault
 err_same : {B : Type 0} (e f : RecordFault) → (let error : RecordFault → Read B = λ a. Err a in error e ≡ error f) → e ≡ f
 err_same e f same = cc
 
+-- two steps that tell no Tail tell none together, and so does either of two by a test
 then_no_tail : {A B : Type 0} (r : Read A) (f : A → Read B) → NoTail r → ((x : A) → NoTail (f x)) → NoTail (r >>= f)
 then_no_tail (Ok x) f p q at same = q x at same
 then_no_tail (Err e) f p q at same = p at (ap (λ (g : RecordFault). Err g) (err_same e (Bad at Tail) same))
@@ -35,6 +38,7 @@ either_no_tail : {A : Type 0} (b : Bool) (x y : Read A) → NoTail x → NoTail 
 either_no_tail true x y p q = p
 either_no_tail false x y p q = q
 
+-- no other kind of fault is a Tail
 short_no_tail : {A : Type 0} (stop : ℕ) → NoTail (let no : Read A = fault stop Short in no)
 short_no_tail stop at e = cc
 
@@ -47,6 +51,7 @@ bad_type_no_tail stop at e = cc
 utf8_no_tail : {A : Type 0} (stop : ℕ) → NoTail (let no : Read A = fault stop Utf8 in no)
 utf8_no_tail stop at e = cc
 
+-- reading a number tells no Tail
 among_no_tail : (stop : ℕ) (bytes : List ℕ) (o : Option (ℕ × List ℕ)) → NoTail (number_among stop bytes o)
 among_no_tail stop bytes None = short_no_tail stop
 among_no_tail stop bytes (Some (n, rest)) = either_no_tail (length bytes == varint_len n + length rest) (Ok (n, rest)) (fault (stop - length bytes) Spelling) (ok_no_tail (n, rest)) (spelling_no_tail (stop - length bytes))
@@ -55,6 +60,7 @@ number_no_tail : (stop : ℕ) (bytes : List ℕ) → NoTail (number_at stop byte
 unfolding number_at
 number_no_tail stop bytes = among_no_tail stop bytes (varint_behind 8 0 bytes)
 
+-- reading a type tells no Tail, and neither does reading several
 type_no_tail : (stop : ℕ) (bytes : List ℕ) → NoTail (type_at stop bytes)
 unfolding type_at
 type_no_tail stop bytes =
@@ -68,6 +74,7 @@ types_no_tail (suc most) stop (b ∷ bytes) =
     then_no_tail (type_at stop (b ∷ bytes)) (λ t. types_within most stop t.1 >>= λ types. Ok ((stop - length (b ∷ bytes), t.0) ∷ types)) (type_no_tail stop (b ∷ bytes))
     (λ t. then_no_tail (types_within most stop t.1) (λ types. Ok ((stop - length (b ∷ bytes), t.0) ∷ types)) (types_no_tail most stop t.1) (λ types. ok_no_tail ((stop - length (b ∷ bytes), t.0) ∷ types)))
 
+-- reading a value tells no Tail, and neither does reading several
 value_of_no_tail : (type_place place t : ℕ) (body : List ℕ) → NoTail (value_of type_place place t body)
 unfolding value_of
 value_of_no_tail type_place place t body =
@@ -88,6 +95,7 @@ values_no_tail end (type ∷ types) bytes =
     then_no_tail (value_at end type bytes) (λ v. values_at end types v.1 >>= λ values. Ok (v.0 ∷ values.0, values.1)) (value_no_tail end type bytes)
     (λ v. then_no_tail (values_at end types v.1) (λ values. Ok (v.0 ∷ values.0, values.1)) (values_no_tail end types v.1) (λ values. ok_no_tail (v.0 ∷ values.0, values.1)))
 
+-- reading what is behind the header tells no Tail
 columns_no_tail : (end size : ℕ) (bytes : List ℕ) → NoTail (columns_at end size bytes)
 unfolding columns_at values_of_types types_at
 columns_no_tail end size bytes =
@@ -95,6 +103,7 @@ columns_no_tail end size bytes =
     (then_no_tail (types_within (length bytes) end bytes) (λ types. fault end Short) (types_no_tail (length bytes) end bytes) (λ types. short_no_tail end))
     (then_no_tail (types_within (length (take size bytes)) (end - length (drop size bytes)) (take size bytes)) (λ all. values_at end all (drop size bytes)) (types_no_tail (length (take size bytes)) (end - length (drop size bytes)) (take size bytes)) (λ all. values_no_tail end all (drop size bytes)))
 
+-- reading a record tells no Tail
 record_no_tail : (bytes : List ℕ) → NoTail (record_at bytes)
 unfolding record_at
 record_no_tail bytes =
@@ -103,15 +112,18 @@ record_no_tail bytes =
 
 -- ---- a Tail
 
+-- Tails that are the same are at one place
 bad_same : (m n : ℕ) → Bad m Tail ≡ Bad n Tail → m ≡ n
 bad_same m n e = cc
 
+-- bytes whose length tests as some are not empty
 not_nil : (rest : List ℕ) → (length rest == 0) ≡ false → rest ≢ []
 not_nil rest some none = no (sym some ∙ ap (λ (l : List ℕ). length l == 0) none)
   where
     no : false ≡ true → ⊥
     no q = cc
 
+-- where a Tail is told behind the reading of a record, the record has bytes behind it
 behind_record : (bytes : List ℕ) (at : ℕ) (r : Read (List Value × List ℕ)) → IsBytes bytes → record_at bytes ≡ r → (r >>= λ found. cond (length found.1 == 0) (Ok found.0) (fault (length bytes - length found.1) Tail)) ≡ Err (Bad at Tail) → HasTail bytes at
 behind_record bytes at (Err e) fits is same = absurd (record_no_tail bytes at (is ∙ ap (λ (g : RecordFault). Err g) (err_same e (Bad at Tail) same)))
 behind_record bytes at (Ok x) fits is same =
@@ -123,10 +135,12 @@ behind_record bytes at (Ok x) fits is same =
           (x.0, x.1, r.1, r.0, not_nil x.1 more.0, omega (arith, place, ap length r.0, length-append (encoding x.0) x.1))
     ]
 
+-- a Tail is told only where a record stands at the front and ends at that place
 pub tail_found : (bytes : List ℕ) (at : ℕ) → IsBytes bytes → reading bytes ≡ Err (Bad at Tail) → HasTail bytes at
 unfolding reading
 tail_found bytes at fits e = behind_record bytes at (record_at bytes) fits refl e
 
+-- and the other way round: a record with bytes behind it is read to a Tail where it ends
 pub tail_told : (bytes : List ℕ) (at : ℕ) → length bytes < 2 ^ 32 → HasTail bytes at → reading bytes ≡ Err (Bad at Tail)
 unfolding reading
 tail_told bytes at short (v, rest, are, parts, some, place) =
