@@ -21,6 +21,7 @@ long_begins_higher (suc k) small long first =
     let high : 48 < get_or (decimal (suc k)) 0 0 = first_decimal (suc k) some fits in
     omega arith
 
+-- several digits that begin with a 0 are no number
 pub leading_zero_is_none : (digits : List ℕ) (n : ℤ) → 1 < length digits → get_or digits 0 0 ≡ 48 → IsNumber digits n → ⊥
 leading_zero_is_none digits n long first (k, small, is, text) =
     let Long : List ℕ → Type 0 = λ l. 1 < length l in
@@ -32,6 +33,7 @@ pub digits_are_text : {E : Type 0} (V : E → Type 0) (digits : List ℕ) (r : R
 digits_are_text V digits (Ok s) all cases none = cc
 digits_are_text V digits (Err e) all cases none = cases.0 (IsUtf8-from_ascii digits (IsAscii-from_digits digits (digits_model.to digits all)))
 
+-- what `from_utf8` gives of digits is these digits
 pub text_is_digits : {E : Type 0} (V : E → Type 0) (digits : List ℕ) (r : Result (Bor (List ℕ)) E) (text : Bor (List ℕ)) → MatchResult r (λ s. (s.now ≡ digits) × IsUtf8 digits) (λ e. ¬ (IsUtf8 digits) × V e) → Some text ≡ result_ok r → text.now ≡ digits
 text_is_digits V digits (Ok s) text cases some = let same : text ≡ s = cc in ap (λ (b : Bor (List ℕ)). b.now) same ∙ cases.0
 text_is_digits V digits (Err e) text cases some = absurd (cc)
@@ -45,6 +47,7 @@ parsed_some {E} digits (Ok n) all plain parses =
     (digits_value 10 digits, value.0.1, value.1, sym (decimal-digits_value digits_model digits all value.0.0 one fits))
 parsed_some digits (Err e) all plain parses = tt
 
+-- digits that `parse` refuses are no number
 pub parsed_none : {E : Type 0} (digits : List ℕ) (r : Result ℤ E) → AllByRecursion IsDigit digits → ParsesSigned w64 10 digits r → IfNone (result_ok r) ((n : ℤ) → ¬ IsNumber digits n)
 parsed_none digits (Ok n) all parses = tt
 parsed_none {E} digits (Err e) all parses = λ n (k, small, is, text).

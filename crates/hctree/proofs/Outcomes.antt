@@ -30,6 +30,7 @@ refuses_input left before now WriteFault cause = cause
 refuses_input left before now Words cause = cause
 refuses_input left before now NoMemory cause = tt
 
+-- an input that breaks the form is refused, where no output was made
 pub refused_if_broken : (left : Option (List ℕ)) (before now : ℕ) (status : Status) (A : Type 0) → IsCauseOfNone left before now status → IfSome left (λ input. BreaksForm input → A → RefusesInput status)
 refused_if_broken None before now status A cause = tt
 refused_if_broken (Some input) before now status A cause = λ breaks a. refuses_input (Some input) before now status cause

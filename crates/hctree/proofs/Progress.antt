@@ -13,18 +13,21 @@ use Rattle.hc_meaning.proofs.Statements.{statement_once}
 pub empty_is_none : (bytes : List ℕ) → true ≡ (length bytes == 0) → bytes ≡ []
 empty_is_none bytes e = nil_from_length bytes (eqb-true (length bytes) 0 (sym e))
 
+-- a rest whose test says that some is left is not empty
 pub filled_is_some : (bytes : List ℕ) → false ≡ (length bytes == 0) → bytes ≢ []
 filled_is_some bytes e none =
     let Tells : List ℕ → Type 0 = λ l. false ≡ (length l == 0) in
     let no : false ≡ true = subst Tells none e in
     cc
 
+-- these statements were read from the front of the input, and the rest is left
 pub record ReadSoFar (input : List ℕ) (statements : List Statement) (rest : List ℕ) : Type 0 where
   -- a text that is no blank comes next
   pub at_text : BeginsOutside IsBlankByte rest
   pub to_whole : (others : List Statement) → IsScript rest others → IsScript input (statements ++ others)
   pub from_whole : (all : List Statement) → IsScript input all → (others : List Statement) × (all ≡ statements ++ others) × IsScript rest others
 
+-- behind the blank at the front, no statement was read
 pub nothing_read : (input rest : List ℕ) → BeginsWithBlank input rest → ReadSoFar input [] rest
 nothing_read input rest (blank, is_blank, whole, outside) = record {
   at_text = outside;
@@ -32,6 +35,7 @@ nothing_read input rest (blank, is_blank, whole, outside) = record {
   from_whole = λ all script. (all, refl, script_behind_front input blank rest all is_blank outside whole script);
 }
 
+-- behind one statement more and the blank behind it, the script was read that far
 pub one_more : (input bytes behind rest : List ℕ) (statements : List Statement) (statement : Statement) → ReadSoFar input statements bytes → bytes ≢ [] → BeginsWith IsStatement bytes statement behind → BeginsWithBlank behind rest
     → ReadSoFar input (statements ++ statement ∷ []) rest
 one_more input bytes behind rest statements statement so_far some begins (blank, is_blank, whole, outside) = record {
@@ -50,6 +54,7 @@ one_more input bytes behind rest statements statement so_far some begins (blank,
       (first.others, are, more);
 }
 
+-- where nothing is left, the input is the script of what was read
 pub all_read : (input rest : List ℕ) (statements : List Statement) → ReadSoFar input statements rest → rest ≡ [] → IsScript input statements
 all_read input rest statements so_far none =
     let end : IsScript rest [] = subst (λ (l : List ℕ). IsScript l []) (sym none) tt in
@@ -62,11 +67,13 @@ next_is input rest statements all so_far some script =
     let left : (others : List Statement) × (all ≡ statements ++ others) × IsScript rest others = so_far.from_whole all script in
     (left.0, left.1, script_first rest left.0 so_far.at_text some left.2)
 
+-- where something is left that begins with no statement, the input is no script
 pub no_next_is_none : (input rest : List ℕ) (statements all : List Statement) → ReadSoFar input statements rest → rest ≢ [] → ((statement : Statement) (behind : List ℕ) → ¬ BeginsWith IsStatement rest statement behind) → IsScript input all → ⊥
 no_next_is_none input rest statements all so_far some none script =
     let next : (others : List Statement) × (all ≡ statements ++ others) × First rest others = next_is input rest statements all so_far some script in
     none next.2.statement next.2.rest next.2.begins
 
+-- where something is left, a script of the input has more statements
 pub more_are_left : (input rest : List ℕ) (statements all : List Statement) → ReadSoFar input statements rest → rest ≢ [] → IsScript input all → length statements < length all
 more_are_left input rest statements all so_far some script =
     let next : (others : List Statement) × (all ≡ statements ++ others) × First rest others = next_is input rest statements all so_far some script in

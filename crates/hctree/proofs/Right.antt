@@ -21,6 +21,7 @@ read_whole left rest input reads within =
     (λ most. absurd (omega (arith, within, most)))
     reads.all_or_most
 
+-- an output that is a serial run's text is right for the script's input
 right_alone : (input output : List ℕ) (statements : List Statement) → IsScript input statements → length input ≤ 16777216 → length statements ≤ 65535 → output ≡ output_text (played_alone statements) → IsRightOutput input output
 right_alone input output statements script bytes many is = record {
   scripts = setup_of statements;
@@ -31,12 +32,14 @@ right_alone input output statements script bytes many is = record {
 }
 
 module _ (input output : List ℕ) (statements : List Statement) (script : IsScript input statements) (bytes : length input ≤ 16777216) where
+  -- the same of the input that was left, where that is told
   pub right_if_told : (left after : Option (List ℕ)) → ReadsAllOrMostIfTold left after input → length statements ≤ 65535 → output ≡ output_text (played_alone statements) → IsRightOutputIfTold left output
   right_if_told None after reads many is = tt
   right_if_told (Some left) None reads many is = absurd reads
   right_if_told (Some left) (Some rest) reads many is =
       subst (λ (l : List ℕ). IsRightOutput l output) (sym (read_whole left rest input reads bytes).0) (right_alone input output statements script bytes many is)
 
+-- an input within the limit was read to its end
 pub to_end_if_told : (left after : Option (List ℕ)) (input : List ℕ) → ReadsAllOrMostIfTold left after input → length input ≤ 16777216 → ReadsToEnd left after
 to_end_if_told None after input reads bytes = tt
 to_end_if_told (Some left) None input reads bytes = absurd reads

@@ -17,12 +17,15 @@ use Rattle.hc_meaning.specs.Run.{selected}
 use Rattle.hc_meaning.specs.Played.{reply_to}
 use Rattle.hctree.proofs.Table.{rows_at-is}
 
+-- the row of a value
 abbrev pub row_of : ℤ → Row
 row_of v = record { values = Int v ∷ [] }
 
+-- the reply to a query that found these rows, so many commits before it
 abbrev replied : ℕ → List Row → ℕ → Reply
 replied commits rows count = record { rows = rows; last = Ok count; ending = Some (Snapshot commits) }
 
+-- the reply with what the look-up found is the reply to the query
 pub select_reply : (commits : ℕ) (rows : Db) (id : ℤ) (found : List Row) (count : ℕ) (value : Option ℤ) → IsStrictlySortedBy int_cmp (keys_of rows) → value ≡ value_at rows id → found ≡ map row_of (option_to_list value) → count ≡ length found
     → replied commits found count ≡ reply_to commits rows (Select id)
 select_reply commits rows id found count value sorted is found_is counts =

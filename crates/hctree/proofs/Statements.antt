@@ -10,6 +10,7 @@ use Rattle.hc_meaning.specs.Input.{IsStatement}
 use Rattle.hc_meaning.proofs.Numbers.{number_once}
 use Rattle.hc_meaning.proofs.Statements.{InsertTail, SelectTail, insert_from_tail, insert_tail, select_from_tail, select_tail, statement_head}
 
+-- a number at the front is an i64
 pub number_fits : (bytes : List ℕ) (n : ℤ) (rest : List ℕ) → BeginsWithNumber bytes n rest → FitsSigned w64 n
 number_fits bytes n rest ((text, (k, small, is, e), whole), outside) = subst (FitsSigned w64) (sym is) (omega (arith, ints))
 
@@ -26,6 +27,7 @@ insert_read bytes behind_id after behind_v rest id v id' v' same_id same_v id_re
       v_read = subst (λ (l : List ℕ). BeginsWithNumber after v l) close v_read;
     })
 
+-- the same of a query: its parts, read one after another, are the statement
 pub select_read : (bytes behind_id rest : List ℕ) (id id' : ℤ) → id' ≡ id → BeginsWithNumber bytes id behind_id → behind_id ≡ codes ";" ++ rest → BeginsWith IsStatement (codes "SELECT v FROM t WHERE id=" ++ bytes) (Select id') rest
 select_read bytes behind_id rest id id' same_id id_read close =
     select_from_tail bytes (Select id') rest (record {
@@ -34,39 +36,47 @@ select_read bytes behind_id rest id id' same_id id_read close =
       id_read = subst (λ (l : List ℕ). BeginsWithNumber bytes id l) close id_read;
     })
 
+-- an INSERT goes on with a number behind its head
 pub insert_has_id : (bytes : List ℕ) (statement : Statement) (rest : List ℕ) → ((n : ℤ) (behind : List ℕ) → ¬ BeginsWithNumber bytes n behind) → BeginsWith IsStatement (codes "INSERT INTO t VALUES(" ++ bytes) statement rest → ⊥
 insert_has_id bytes statement rest none begins =
     let tail : InsertTail bytes statement rest = insert_tail bytes statement rest begins in
     none tail.id _ tail.id_read
 
+-- behind the id that was read stands a comma
 insert_comma : (bytes behind_id : List ℕ) (id : ℤ) (statement : Statement) (rest : List ℕ) → BeginsWithNumber bytes id behind_id → (tail : InsertTail bytes statement rest) → behind_id ≡ codes "," ++ tail.after
 insert_comma bytes behind_id id statement rest id_read tail = (number_once bytes id tail.id behind_id (codes "," ++ tail.after) id_read tail.id_read).1
 
+-- an INSERT has a comma behind its id
 pub insert_has_comma : (bytes behind_id : List ℕ) (id : ℤ) (statement : Statement) (rest : List ℕ) → BeginsWithNumber bytes id behind_id → ((after : List ℕ) → behind_id ≢ codes "," ++ after) → BeginsWith IsStatement (codes "INSERT INTO t VALUES(" ++ bytes) statement rest → ⊥
 insert_has_comma bytes behind_id id statement rest id_read none begins =
     let tail : InsertTail bytes statement rest = insert_tail bytes statement rest begins in
     none tail.after (insert_comma bytes behind_id id statement rest id_read tail)
 
+-- behind that comma stand the value and the end
 insert_after : (bytes behind_id after : List ℕ) (id : ℤ) (statement : Statement) (rest : List ℕ) → BeginsWithNumber bytes id behind_id → behind_id ≡ codes "," ++ after → (tail : InsertTail bytes statement rest) → BeginsWithNumber after tail.v (codes ");" ++ rest)
 insert_after bytes behind_id after id statement rest id_read comma tail =
     let same : after ≡ tail.after = append_cancel_left (codes ",") after tail.after (sym comma ∙ insert_comma bytes behind_id id statement rest id_read tail) in
     subst (λ (l : List ℕ). BeginsWithNumber l tail.v (codes ");" ++ rest)) (sym same) tail.v_read
 
+-- an INSERT has a number behind its comma
 pub insert_has_value : (bytes behind_id after : List ℕ) (id : ℤ) (statement : Statement) (rest : List ℕ) → BeginsWithNumber bytes id behind_id → behind_id ≡ codes "," ++ after → ((n : ℤ) (behind : List ℕ) → ¬ BeginsWithNumber after n behind) → BeginsWith IsStatement (codes "INSERT INTO t VALUES(" ++ bytes) statement rest → ⊥
 insert_has_value bytes behind_id after id statement rest id_read comma none begins =
     let tail : InsertTail bytes statement rest = insert_tail bytes statement rest begins in
     none tail.v _ (insert_after bytes behind_id after id statement rest id_read comma tail)
 
+-- an INSERT ends with a closing bracket and a semicolon behind its value
 pub insert_has_close : (bytes behind_id after behind_v : List ℕ) (id v : ℤ) (statement : Statement) (rest : List ℕ) → BeginsWithNumber bytes id behind_id → behind_id ≡ codes "," ++ after → BeginsWithNumber after v behind_v → ((behind : List ℕ) → behind_v ≢ codes ");" ++ behind) → BeginsWith IsStatement (codes "INSERT INTO t VALUES(" ++ bytes) statement rest → ⊥
 insert_has_close bytes behind_id after behind_v id v statement rest id_read comma v_read none begins =
     let tail : InsertTail bytes statement rest = insert_tail bytes statement rest begins in
     none rest (number_once after v tail.v behind_v (codes ");" ++ rest) v_read (insert_after bytes behind_id after id statement rest id_read comma tail)).1
 
+-- a SELECT goes on with a number behind its head
 pub select_has_id : (bytes : List ℕ) (statement : Statement) (rest : List ℕ) → ((n : ℤ) (behind : List ℕ) → ¬ BeginsWithNumber bytes n behind) → BeginsWith IsStatement (codes "SELECT v FROM t WHERE id=" ++ bytes) statement rest → ⊥
 select_has_id bytes statement rest none begins =
     let tail : SelectTail bytes statement rest = select_tail bytes statement rest begins in
     none tail.id _ tail.id_read
 
+-- a SELECT ends with a semicolon behind its id
 pub select_has_close : (bytes behind_id : List ℕ) (id : ℤ) (statement : Statement) (rest : List ℕ) → BeginsWithNumber bytes id behind_id → ((behind : List ℕ) → behind_id ≢ codes ";" ++ behind) → BeginsWith IsStatement (codes "SELECT v FROM t WHERE id=" ++ bytes) statement rest → ⊥
 select_has_close bytes behind_id id statement rest id_read none begins =
     let tail : SelectTail bytes statement rest = select_tail bytes statement rest begins in

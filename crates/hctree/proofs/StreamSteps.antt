@@ -18,11 +18,13 @@ pub record ReadSoFar (left rest : Option (List ℕ)) (input : List ℕ) (size bu
   pub buffer_size : buffer ≡ 65536
   pub count : first ≤ now
 
+-- a read takes the bytes that it copied from the front of what was left
 pub consumes-read : (left rest : Option (List ℕ)) (buffer : List ℕ) (n : ℕ) → ReadsIfTold left rest buffer n → Consumes left rest (take n buffer)
 consumes-read None rest buffer n reads = tt
 consumes-read (Some left) None buffer n reads = reads
 consumes-read (Some left) (Some rest) buffer n reads = reads.bytes
 
+-- a read of no bytes into some room is at the end
 pub ends-read : (left rest : Option (List ℕ)) (buffer : List ℕ) (n : ℕ) → ReadsIfTold left rest buffer n → 0 < length buffer → n ≡ 0 → ReadsToEnd left rest
 ends-read None rest buffer n reads some zero = tt
 ends-read (Some left) None buffer n reads some zero = absurd reads
@@ -30,12 +32,14 @@ ends-read (Some left) (Some rest) buffer n reads some zero =
     let all : left ≡ rest = rw zero at reads.bytes in
     ap Some (sym all ∙ (reads.end some).0 zero)
 
+-- what two reads take one after the other is taken as one
 pub consumes-more : (first mid last : Option (List ℕ)) (xs ys : List ℕ) → Consumes first mid xs → Consumes mid last ys → Consumes first last (xs ++ ys)
 consumes-more None mid last xs ys a b = tt
 consumes-more (Some first) None last xs ys a b = absurd a
 consumes-more (Some first) (Some mid) None xs ys a b = b
 consumes-more (Some first) (Some mid) (Some last) xs ys a b = a ∙ ap (λ (l : List ℕ). xs ++ l) b ∙ sym (append_assoc xs ys last)
 
+-- what two writes put of a piece, one behind the other, is written as one
 pub writes-more : (first mid last : Option (List ℕ)) (piece : List ℕ) (at n : ℕ) → WritesIfTold first mid piece at → WritesIfTold mid last (drop at piece) n → WritesIfTold first last piece (at + n)
 writes-more None mid last piece at n a b = tt
 writes-more (Some first) None last piece at n a b = absurd a

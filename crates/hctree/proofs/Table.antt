@@ -19,6 +19,7 @@ below x y is = by_test (int_lt x y) (int_lt y x) refl is
     by_test false true e is = cc
     by_test false false e is = cc
 
+-- the same of an answer that one is greater
 not_below : (x y : ℤ) → int_cmp x y ≡ Greater → int_lt x y ≡ false
 not_below x y is = by_test (int_lt x y) (int_lt y x) refl is
   where
@@ -26,9 +27,11 @@ not_below x y is = by_test (int_lt x y) (int_lt y x) refl is
     by_test true d e is = cc
     by_test false d e is = e
 
+-- compared the other way round, the answer is the other way round
 flipped : (x y : ℤ) (r : Ordering) → int_cmp x y ≡ r → int_cmp y x ≡ ordering_reverse r
 flipped x y r is = int_cmp_total.antisymm y x ∙ ap ordering_reverse is
 
+-- the map's look-up of an id finds its value in the db
 pub lookup-is-value_at : (rows : Db) (id : ℤ) → lookup (is_at (int_cmp id)) rows ≡ value_at rows id
 lookup-is-value_at [] id = refl
 lookup-is-value_at (row ∷ rows) id = rw (int_eq_equiv.symm row.0 id, lookup-is-value_at rows id)
@@ -48,6 +51,7 @@ above (row ∷ rows) id first less others =
     let no : int_lt row.0 id ≡ false = not_below row.0 id (flipped id row.0 Less lower) in
     (rw no rest.0, rw yes (ap (λ (l : Db). row ∷ l) rest.1))
 
+-- the map's insertion of a free id is the db with that row
 pub insert_entry-is-with_row : (rows : Db) (id v : ℤ) → IsStrictlySortedBy int_cmp (keys_of rows) → value_at rows id ≡ None → insert_entry int_cmp rows id v ≡ with_row rows id v
 insert_entry-is-with_row [] id v sorted free = refl
 insert_entry-is-with_row (row ∷ rows) id v sorted free =
