@@ -12,15 +12,18 @@ use Rattle.hc_meaning.specs.RightOutput.{IsRightRun, IsInOrder}
 use Rattle.hc_meaning.proofs.SoFar.{IsSoFar}
 use Rattle.hc_meaning.proofs.OneConnection.{transactions_of, cut-played, all-so_far}
 
+-- the script of connection 0 alone
 abbrev pub setup_of : List Statement → List Script
 setup_of statements = record { conn = 0; statements = statements } ∷ []
 
+-- the serial run's replies are cut into its transactions
 cut_all-played : (statements : List Statement) → cut_all (setup_of statements) (played_alone statements) ≡ Some (transactions_of 1 0 empty_db statements)
 cut_all-played [] = refl
 cut_all-played (statement ∷ statements) =
     ap (λ (found : Option (List Transaction)). joined found (Some [])) (cut-played 1 0 empty_db (statement ∷ statements))
     ∙ ap Some (append-nil (transactions_of 1 0 empty_db (statement ∷ statements)))
 
+-- of one connection, what holds so far is in order
 in_order : (transactions history : List Transaction) (last : ℕ) → IsSoFar transactions history last → IsInOrder transactions history
 in_order transactions history last so_far = record {
   rising = λ t u among_t among_u same before. let after = so_far.rising t u among_t among_u before in (after.no_fall, after.above);
@@ -30,6 +33,7 @@ in_order transactions history last so_far = record {
   after_setup = λ t among other. absurd (other (so_far.named t among).0);
 }
 
+-- the serial run of the setup script is right
 pub right-alone : (statements : List Statement) → IsRightRun (setup_of statements) (played_alone statements)
 right-alone statements =
     let all = all-so_far statements in

@@ -20,6 +20,7 @@ state-last history t =
     ∙ fold-append after empty_db history (t ∷ [])
     ∙ ap (λ (h : List Transaction). after (fold after empty_db h) t) (sym (take_all (length history) history (omega arith)))
 
+-- what was read after an earlier number of commits is read so still
 is_read-grown : (history : List Transaction) (t u : Transaction) (s : ℕ) → IsReadAt history s t → IsReadAt (history ++ u ∷ []) s t
 is_read-grown history t u s read =
     let same : state (history ++ u ∷ []) s ≡ state history s = state-earlier history u s read.within in

@@ -14,6 +14,7 @@ abbrev pub AreRead : List Transaction → List Transaction → Type 0
 AreRead transactions history = (t : Transaction) → Contains transactions t → IsReadUnlessCommitted history t t.ending
 
 module _ (scripts : List Script) (transcripts : List Transcript) (found : List Transaction) (is_cut : Some found ≡ cut_all scripts transcripts) (right : IsRightRun scripts transcripts) where
+  -- a right run's transactions and history are those that were found
   same_transactions : right.transactions ≡ found
   same_transactions =
       let both : ◌≡◌ {A = Option (List Transaction)} (Some found) (Some right.transactions) = is_cut ∙ right.is_cut in cc
@@ -25,6 +26,7 @@ module _ (scripts : List Script) (transcripts : List Transcript) (found : List T
     same_history : right.history ≡ history
     same_history = history-once found right.history history found_history is_history
 
+    -- what was found is legal, was read as it says, and is in order
     pub found_legal : IsLegal history
     found_legal = subst IsLegal same_history right.is_legal
 

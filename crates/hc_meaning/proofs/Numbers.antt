@@ -8,9 +8,11 @@ use Rattle.hc_meaning.specs.Front.{BeginsWithNumber, IsDigit}
 use Rattle.hc_meaning.specs.Input.{IsNumber}
 use Rattle.hc_meaning.proofs.Spans.{same_span}
 
+-- digits are numerals to the base ten, by their value
 pub digits_model : IsNumeralModel (AllByRecursion IsDigit) (digits_value 10)
 digits_model = numerals_by_value _ (search rules)
 
+-- a number's text is digits
 pub number_is_digits : (text : List ℕ) (n : ℤ) → IsNumber text n → AllByRecursion IsDigit text
 number_is_digits text n (k, small, is, e) =
     let in_range : k < 2 ^ 64 = omega arith in

@@ -28,6 +28,7 @@ transaction_with ordinal commits statement outcome = record {
   ending = ending_after commits statement outcome.answer.last;
 }
 
+-- the transactions of a serial run, each of one statement
 abbrev pub transactions_of : ℕ → ℕ → Db → List Statement → List Transaction
 transactions_of ordinal commits db [] = []
 transactions_of ordinal commits db (statement ∷ statements) =
@@ -58,9 +59,11 @@ record GoesOn (transactions history : List Transaction) (next : ℕ) (statement 
   pub db : outcome.db ≡ state later (length later)
 
 module _ (transactions history : List Transaction) (next : ℕ) (so_far : IsSoFar transactions history next) where
+  -- the db after all commits so far
   abbrev now : Db
   now = state history (length history)
 
+  -- what held so far holds on after a query
   select-goes_on : (id : ℤ) → GoesOn transactions history next (Select id) (run now (Select id))
   select-goes_on id = record {
     later = history;
@@ -73,12 +76,14 @@ module _ (transactions history : List Transaction) (next : ℕ) (so_far : IsSoFa
     db = refl;
   }
 
+  -- what an INSERT gives where its id is taken, and where it is free
   abbrev refused : Outcome
   refused = record { answer = duplicate; db = now }
 
   abbrev inserted : ℤ → ℤ → Outcome
   inserted id v = record { answer = record { rows = []; last = Ok 1 }; db = with_row now id v }
 
+  -- what held so far holds on after an INSERT, be it refused or carried out
   refused-goes_on : (id v : ℤ) → run now (Insert id v) ≡ refused → GoesOn transactions history next (Insert id v) refused
   refused-goes_on id v is = record {
     later = history;
@@ -116,6 +121,7 @@ module _ (transactions history : List Transaction) (next : ℕ) (so_far : IsSoFa
           let is : run now (Insert id v) ≡ refused = rw there in
           subst (λ (o : Outcome). GoesOn transactions history next (Insert id v) o) (sym is) (refused-goes_on id v is)
 
+  -- and so after any statement
   goes_on : (statement : Statement) → GoesOn transactions history next statement (run now statement)
   goes_on (Insert id v) = insert-goes_on id v
   goes_on (Select id) = select-goes_on id
@@ -135,6 +141,7 @@ run-goes_on (statement ∷ statements) transactions history next so_far =
     ∙ ap (λ (db : Db). transactions ++ new ∷ transactions_of (next + 1) (commits_after (length history) (state history (length history)) statement) db statements) (sym one.db) in
     (rest.0, rest.1, subst (λ (all : List Transaction). IsSoFar all rest.0 rest.1) same rest.2)
 
+-- it holds of no transactions
 none-so_far : IsSoFar [] [] 1
 none-so_far = record {
   is_history = record { printed = λ k t is. cc; placed = λ k t among is. absurd (omega (arith, among.1)) };
@@ -145,5 +152,6 @@ none-so_far = record {
   named = λ t among. absurd (omega (arith, among.1));
 }
 
+-- it holds of a whole serial run
 pub all-so_far : (statements : List Statement) → (history : List Transaction) × (last : ℕ) × IsSoFar (transactions_of 1 0 empty_db statements) history last
 all-so_far statements = run-goes_on statements [] [] 1 none-so_far

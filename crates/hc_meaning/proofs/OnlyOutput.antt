@@ -9,12 +9,14 @@ use Rattle.hc_meaning.specs.RightOutput.{IsRightRun, IsRightOutput}
 use Rattle.hc_meaning.proofs.Scripts.{script_once}
 use Rattle.hc_meaning.proofs.OnlyRun.{only-right}
 
+-- a right output is the text of the serial run of its input's statements
 serial : (input output : List ℕ) → IsRightOutput input output → (statements : List Statement) × IsScript input statements × (output ≡ output_text (played_alone statements))
 serial input output right =
     let (statements, is_script, within, few, are) = right.is_input in
     let run = subst (λ (scripts : List Script). IsRightRun scripts right.transcripts) are right.is_run in
     (statements, is_script, right.is_output.1 ∙ ap output_text (only-right statements right.transcripts run))
 
+-- an input has one right output
 pub only-output : (input one other : List ℕ) → IsRightOutput input one → IsRightOutput input other → one ≡ other
 only-output input one other first second =
     let (statements, is_script, is_one) = serial input one first in

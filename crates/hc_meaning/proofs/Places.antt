@@ -3,6 +3,7 @@ use Rattle.std.proofs.Common.{◌≡◌, ℕ, zero, suc, List, [], ◌∷◌, �
 use Rattle.std.specs.List.{slice_get}
 
 module _ {X : Type 0} where
+  -- the new element stands at the end, and each earlier one where it stood
   pub slice_get-last : (xs : List X) (y : X) → slice_get (xs ++ y ∷ []) (length xs) ≡ Some y
   slice_get-last [] y = refl
   slice_get-last (x ∷ xs) y = slice_get-last xs y

@@ -45,6 +45,7 @@ not_below true below equal = absurd (false≢true equal)
 not_below false true equal = absurd (false≢true equal)
 not_below false false equal = refl
 
+-- of two ids that differ, one that is not below the other is above it
 above : (above below : Bool) → is_eq (cond above Less (cond below Greater Equal)) ≡ false → below ≡ false → above ≡ true
 above true below differ under = refl
 above false true differ under = sym under

@@ -33,6 +33,7 @@ IsDb-fold : (transactions : List Transaction) (db : Db) → IsDb db → IsDb (fo
 IsDb-fold [] db ascending = ascending
 IsDb-fold (transaction ∷ transactions) db ascending = IsDb-fold transactions (after db transaction) (IsDb-run_all db transaction.statements ascending)
 
+-- the empty db's ids are in order
 IsDb-empty : IsDb empty_db
 unfolding IsStrictlySortedBy
 IsDb-empty = tt

@@ -13,6 +13,7 @@ all_behind : (P : ℕ → Type 0) (front bytes : List ℕ) → AllByRecursion P 
 all_behind P [] bytes all = all
 all_behind P (b ∷ front) bytes all = all_behind P front bytes all.1
 
+-- a front and the bytes behind it that all pass do so together
 all_joined : (P : ℕ → Type 0) (front bytes : List ℕ) → AllByRecursion P front → AllByRecursion P bytes → AllByRecursion P (front ++ bytes)
 all_joined P [] bytes in_front all = all
 all_joined P (b ∷ front) bytes in_front all = (in_front.0, all_joined P front bytes in_front.1 all)
@@ -22,6 +23,7 @@ all_and_outside : (P : ℕ → Type 0) (bytes : List ℕ) → AllByRecursion P b
 all_and_outside P [] all outside = refl
 all_and_outside P (b ∷ bytes) all outside = absurd (outside all.0)
 
+-- a byte above 32 is no blank
 no_blank : (b : ℕ) → 32 < b → IsBlankByte b → ⊥
 no_blank b high (inl space) = omega arith
 no_blank b high (inr line_feed) = omega arith
@@ -34,6 +36,7 @@ begins_with_letter bytes statement rest begins =
       | inr head ↦ subst (BeginsOutside IsBlankByte) (sym head.1) (no_blank 83 (lit< tt))
     ]
 
+-- bytes with a first one are not empty
 cons_is_some : (b : ℕ) (bytes : List ℕ) → [] ≡ b ∷ bytes → ⊥
 cons_is_some b bytes e = cc
 
@@ -78,6 +81,7 @@ script_first bytes (statement ∷ statements) outside some (more, written, behin
     same_span IsBlankByte [] more bytes (written ++ behind) tt is_more outside (begins_with_letter (written ++ behind) statement behind begins) (f ∙ append_assoc more written behind) in
     record { statement = statement; others = statements; rest = behind; are = refl; begins = (written, is_written, both.1); script = script }
 
+-- a statement, and a script behind it, are a script
 pub script_from_first : (bytes rest : List ℕ) (statement : Statement) (statements : List Statement) → BeginsWith IsStatement bytes statement rest → IsScript rest statements → IsScript bytes (statement ∷ statements)
 script_from_first bytes rest statement statements (written, is_written, e) script = ([], written, rest, tt, is_written, e, script)
 
@@ -88,6 +92,7 @@ blank_is_empty bytes more written behind statement is_blank is_written e =
     let blank : IsBlank (written ++ behind) = all_behind IsBlankByte more (written ++ behind) (subst (AllByRecursion IsBlankByte) (e ∙ append_assoc more written behind) is_blank) in
     begins_with_some (written ++ behind) statement behind begins (all_and_outside IsBlankByte (written ++ behind) blank (begins_with_letter (written ++ behind) statement behind begins))
 
+-- bytes are a script of one list of statements
 pub script_once : (bytes : List ℕ) (one other : List Statement) → IsScript bytes one → IsScript bytes other → one ≡ other
 script_once bytes [] [] first second = refl
 script_once bytes [] (t ∷ ts) is_blank (more, written, behind, is_more, is_written, e, script) = absurd (blank_is_empty bytes more written behind t is_blank is_written e)

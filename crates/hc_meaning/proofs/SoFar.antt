@@ -18,6 +18,7 @@ pub record IsAfter (t u : Transaction) : Type 0 where
   pub no_fall : number t.ending ≤ number u.ending
   pub above : IsCommitted u.ending → number t.ending < number u.ending
 
+-- the history is that of connection 0's transactions, which are in order and below the next ordinal
 pub record IsSoFar (transactions history : List Transaction) (next : ℕ) : Type 0 where
   pub is_history : IsHistory transactions history
   pub is_legal : IsLegal history
@@ -33,6 +34,7 @@ each P transactions new earlier last t among =
     ⊎_elim (λ there. earlier t there) (λ (is : new ≡ t). subst P is last) (Contains-push_cases transactions new t among)
 
 module _ (transactions history : List Transaction) (next : ℕ) (so_far : IsSoFar transactions history next) (new : Transaction) (first : new.conn ≡ 0) (named : new.ordinal ≡ next) where
+  -- with the new one, each is of connection 0 and below the ordinal behind it
   named-next : (t : Transaction) → Contains (transactions ++ new ∷ []) t → (t.conn ≡ 0) × (t.ordinal < next + 1)
   named-next = each (λ t. (t.conn ≡ 0) × (t.ordinal < next + 1)) transactions new
       (λ t among. ((so_far.named t among).0, omega (arith, (so_far.named t among).1))) (first, omega (arith, named))
@@ -51,9 +53,11 @@ module _ (transactions history : List Transaction) (next : ℕ) (so_far : IsSoFa
 
   -- a transaction that commits
   module _ (commits : new.ending ≡ Commit (length history + 1)) (legal : IsLegalAt (state history (length history)) new) where
+    -- the new one's number is that of its place
     number-new : number new.ending ≡ length history + 1
     number-new = ap number commits
 
+    -- the new history has the commits that are printed, each at its place
     printed-committed : (k : ℕ) (t : Transaction) → slice_get (history ++ new ∷ []) k ≡ Some t → (t.ending ≡ Commit (k + 1)) × Contains (transactions ++ new ∷ []) t
     printed-committed k t is =
         ⊎_elim (λ earlier. let p = so_far.is_history.printed k t earlier in (p.0, Contains-append_left transactions (new ∷ []) t p.1))
@@ -72,6 +76,7 @@ module _ (transactions history : List Transaction) (next : ℕ) (so_far : IsSoFa
         (omega (arith, here), rw place (slice_get-last history new ∙ ap Some is_new)))
         (Contains-push_cases transactions new t among)
 
+    -- the new history is legal
     legal-committed : IsLegal (history ++ new ∷ [])
     legal-committed k t is =
         ⊎_elim (λ earlier.
@@ -83,6 +88,7 @@ module _ (transactions history : List Transaction) (next : ℕ) (so_far : IsSoFa
         subst (λ (v : Transaction). IsLegalAt (state (history ++ new ∷ []) k) v) last.1 (subst (λ (db : Db). IsLegalAt db new) (sym before) legal))
         (slice_get-push_cases history new t k is)
 
+    -- what held so far holds on with a transaction that commits
     pub committed-next : IsSoFar (transactions ++ new ∷ []) (history ++ new ∷ []) (next + 1)
     committed-next = record {
       is_history = record { printed = printed-committed; placed = placed-committed };
@@ -102,12 +108,14 @@ module _ (transactions history : List Transaction) (next : ℕ) (so_far : IsSoFa
 
   -- a transaction that doesn't
   module _ (numbered : number new.ending ≡ length history) (uncommitted : IsCommitted new.ending → ⊥) (read : IsReadUnlessCommitted history new new.ending) where
+    -- each commit stands at its place still
     placed-read : (k : ℕ) (t : Transaction) → Contains (transactions ++ new ∷ []) t → t.ending ≡ Commit k → (0 < k) × (slice_get history (k - 1) ≡ Some t)
     placed-read k t among is =
         ⊎_elim (λ there. so_far.is_history.placed k t there is)
         (λ (is_new : new ≡ t). absurd (uncommitted (subst IsCommitted (sym (ap (λ (v : Transaction). v.ending) is_new ∙ is)) tt)))
         (Contains-push_cases transactions new t among)
 
+    -- what held so far holds on with a transaction that doesn't
     pub read-next : IsSoFar (transactions ++ new ∷ []) history (next + 1)
     read-next = record {
       is_history = record {

@@ -7,13 +7,16 @@ use Rattle.std.proofs.lemmas.List.Elements.{All-more, All-contains}
 use Rattle.std.proofs.lemmas.Option.{slice_get_within, get_or_from_slice_get}
 
 module _ {X : Type 0} (P : X → Type 0) (xs : List X) (i : ℕ) where
+  -- what each so far and the next one have, one more have
   pub one_more : (x : X) → i < length xs → x ≡ get_or xs i x → All P (take i xs) → P x → All P (take (i + 1) xs)
   one_more x within is so_far holds = All-more P xs i x within so_far (subst P is holds)
 
+  -- where there are no more, each element has it
   pub each_of_all : length xs ≤ i → All P (take i xs) → (x : X) → Contains xs x → P x
   each_of_all past so_far x among = All-contains P xs x (subst (All P) (take_all i xs past) so_far) among
 
 module _ {X : Type 0} (xs : List X) (i : ℕ) where
+  -- what stands at a place is an element
   pub stands_there : (x : X) → i < length xs → x ≡ get_or xs i x → Contains xs x
   stands_there x within is = (i, within, sym is)
 

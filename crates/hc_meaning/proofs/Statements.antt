@@ -22,12 +22,14 @@ pub record SelectTail (bytes : List ℕ) (statement : Statement) (rest : List �
   pub is : statement ≡ Select id
   pub id_read : BeginsWithNumber bytes id (codes ";" ++ rest)
 
+-- the parts of a statement's text, each with all that stands behind it
 regroup_insert : (head a comma b close rest : List ℕ) → ((((head ++ a) ++ comma) ++ b) ++ close) ++ rest ≡ head ++ (a ++ (comma ++ (b ++ (close ++ rest))))
 regroup_insert head a comma b close rest = simp append_assoc
 
 regroup_select : (head a close rest : List ℕ) → ((head ++ a) ++ close) ++ rest ≡ head ++ (a ++ (close ++ rest))
 regroup_select head a close rest = simp append_assoc
 
+-- a lower byte is another
 less_is_other : (a b : ℕ) → a < b → a ≡ b → ⊥
 less_is_other a b less e = omega arith
 
@@ -35,6 +37,7 @@ less_is_other a b less e = omega arith
 heads_differ : (x y : List ℕ) → codes "INSERT INTO t VALUES(" ++ x ≡ codes "SELECT v FROM t WHERE id=" ++ y → ⊥
 heads_differ x y e = less_is_other 73 83 (lit< tt) (ap (λ (l : List ℕ). get_or l 0 0) e)
 
+-- the text of a SELECT has not the head of an INSERT, nor the other way round
 select_is_no_insert : (bytes text a rest : List ℕ) → text ≡ codes "SELECT v FROM t WHERE id=" ++ a ++ codes ";" → codes "INSERT INTO t VALUES(" ++ bytes ≡ text ++ rest → ⊥
 select_is_no_insert bytes text a rest text_is e =
     heads_differ bytes (a ++ (codes ";" ++ rest))
@@ -45,6 +48,7 @@ insert_is_no_select bytes text a b rest text_is e =
     heads_differ (a ++ (codes "," ++ (b ++ (codes ");" ++ rest)))) bytes
     (sym (e ∙ ap (λ (l : List ℕ). l ++ rest) text_is ∙ regroup_insert (codes "INSERT INTO t VALUES(") a (codes ",") b (codes ");") rest))
 
+-- behind the head of an INSERT stands the tail of one; the same of a SELECT
 pub insert_tail : (bytes : List ℕ) (statement : Statement) (rest : List ℕ) → BeginsWith IsStatement (codes "INSERT INTO t VALUES(" ++ bytes) statement rest → InsertTail bytes statement rest
 insert_tail bytes (Insert id v) rest (text, (a, b, is_id, is_v, text_is), e) =
     let behind : bytes ≡ a ++ (codes "," ++ (b ++ (codes ");" ++ rest))) =
@@ -79,6 +83,7 @@ insert_from_tail bytes statement rest t =
     subst (λ (s : Statement). BeginsWith IsStatement (codes "INSERT INTO t VALUES(" ++ bytes) s rest) (sym t.is)
     (codes "INSERT INTO t VALUES(" ++ a ++ codes "," ++ b ++ codes ");", (a, b, t.id_read.0.1, t.v_read.0.1, refl), whole)
 
+-- the same of a SELECT
 pub select_from_tail : (bytes : List ℕ) (statement : Statement) (rest : List ℕ) → SelectTail bytes statement rest → BeginsWith IsStatement (codes "SELECT v FROM t WHERE id=" ++ bytes) statement rest
 select_from_tail bytes statement rest t =
     let a : List ℕ = t.id_read.0.0 in
@@ -96,6 +101,7 @@ statement_head bytes (Insert id v) rest (text, (a, b, is_id, is_v, text_is), e) 
 statement_head bytes (Select id) rest (text, (a, is_id, text_is), e) =
     inr (a ++ (codes ";" ++ rest), e ∙ ap (λ (l : List ℕ). l ++ rest) text_is ∙ regroup_select (codes "SELECT v FROM t WHERE id=") a (codes ";") rest)
 
+-- what stands behind a head is read in one way
 insert_once : (bytes : List ℕ) (s t : Statement) (x y : List ℕ) → InsertTail bytes s x → InsertTail bytes t y → (s ≡ t) × (x ≡ y)
 insert_once bytes s t x y one two =
     let ids : (one.id ≡ two.id) × (codes "," ++ one.after ≡ codes "," ++ two.after) = number_once bytes one.id two.id _ _ one.id_read two.id_read in

@@ -24,6 +24,7 @@ pub commits-is : (commits k : ℕ) (db : Db) (statement : Statement) → WritesS
 commits-is commits k db (Insert id v) writes may = insert-commits commits k id v (run db (Insert id v)).answer.last may
 commits-is commits k db (Select id) writes may = absurd (writes.1 refl)
 
+-- what an INSERT gives where its id is taken, and where it is free
 abbrev refused : Db → Outcome
 refused db = record { answer = duplicate; db = db }
 

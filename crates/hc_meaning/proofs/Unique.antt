@@ -40,15 +40,19 @@ module _ (transactions history : List Transaction) (is_history : IsHistory trans
     pub is_at : IsAt transactions history is_history (commits_after commits (state history commits) statement) later
 
   module _ (commits ordinal : ℕ) (statement : Statement) (reply : Reply) (later : List Transaction) (behind : (u : Transaction) → Contains later u → (u.conn ≡ 0) × (ordinal + 1 ≤ u.ordinal)) where
+    -- the db that the statement runs on
     abbrev now : Db
     now = state history commits
 
+    -- the transaction that the statement is, with this ending
     abbrev first : Ending → Transaction
     first ending = own 0 ordinal statement reply ending
 
+    -- the walk stands before it
     abbrev Starts : Ending → Type 0
     Starts ending = IsAt transactions history is_history commits (first ending ∷ later)
 
+    -- it is one of the transactions, and the later ones come after it
     first_among : (ending : Ending) → Starts ending → Contains transactions (first ending)
     first_among ending is_at = is_at.among (first ending) (is_left (first ending) later)
 
@@ -63,6 +67,7 @@ module _ (transactions history : List Transaction) (is_history : IsHistory trans
       pub answers : (run now statement).answer ≡ answer_of reply
       pub may : may_end (run now statement).answer.last ending ≡ true
 
+    -- a transaction that gives these replies is answered so
     answered : (ending : Ending) → GivesReplies now (first ending) → may_end reply.last ending ≡ true → IsAnswered ending
     answered ending replies may =
         let answers : (run now statement).answer ≡ answer_of reply = answer-is now ordinal statement reply ending replies in
@@ -102,6 +107,7 @@ module _ (transactions history : List Transaction) (is_history : IsHistory trans
         let same : number ending ≡ commits = other-stays transactions history is_history commits (first ending) later is_at (is_before ending is_at) other read.within in
         (same, subst (λ c. IsReadAt history c (first ending)) same read)
 
+    -- with a snapshot the statement is a step of the walk, and so it is where it was rolled back
     snapshot-step : (s : ℕ) → reply.ending ≡ Some (Snapshot s) → may_end reply.last (Snapshot s) ≡ true → Starts (Snapshot s) → IsStep commits statement reply later
     snapshot-step s ended may is_at =
         let r = read-now (Snapshot s) is_at (λ no. no) (others (first (Snapshot s)) (first_among (Snapshot s) is_at)) in
@@ -116,6 +122,7 @@ module _ (transactions history : List Transaction) (is_history : IsHistory trans
         let ends = rolled_back-is commits s now statement a.may in
         other-step (RolledBack s) ended is_at r.0 refl a.answers (ends.0 ∙ ap RolledBack (sym r.0), ends.1)
 
+    -- whatever its ending, the statement is a step of the walk
     step : (ending : Ending) → reply.ending ≡ Some ending → may_end reply.last ending ≡ true → Starts ending → IsStep commits statement reply later
     step (Commit k) ended may is_at = commit-step k ended may is_at
     step (Snapshot s) ended may is_at = snapshot-step s ended may is_at

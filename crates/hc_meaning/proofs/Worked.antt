@@ -32,12 +32,14 @@ from_script input lines statements is_script within few is_output =
 number : (k : ℕ) → k < 2 ^ 63 → IsNumber (decimal k) (pos k)
 number k small = (k, small, refl, refl)
 
+-- the text of an INSERT or a SELECT with decimal numbers is a statement
 insert : (id v : ℕ) → id < 2 ^ 63 → v < 2 ^ 63 → IsStatement (codes "INSERT INTO t VALUES(" ++ decimal id ++ codes "," ++ decimal v ++ codes ");") (Insert (pos id) (pos v))
 insert id v small_id small_v = (decimal id, decimal v, number id small_id, number v small_v, refl)
 
 select : (id : ℕ) → id < 2 ^ 63 → IsStatement (codes "SELECT v FROM t WHERE id=" ++ decimal id ++ codes ";") (Select (pos id))
 select id small = (decimal id, number id small, refl)
 
+-- the output of each example is that of its serial run
 pub a_row_is_read_back : ARowIsReadBack
 unfolding digits
 a_row_is_read_back = from_script _ _ (Insert (pos 1) (pos 10) ∷ Select (pos 1) ∷ []) (
@@ -70,6 +72,7 @@ an_absent_id_has_no_row = from_script _ _ (Select (pos 9) ∷ [])
     ([], codes "SELECT v FROM t WHERE id=9;", [], tt, select 9 (lit< tt), refl, tt)
     (omega arith) (omega arith) refl
 
+-- a lower byte is another
 other_byte : (a b : ℕ) → a < b → a ≡ b → ⊥
 other_byte a b less e = omega arith
 
