@@ -20,6 +20,7 @@ none_at_the_end at n bytes buffer count room =
       λ ended. omega (arith, simp length-drop at (ap length ended)),
     )
 
+-- a copy of the first bytes that are left, as many as there is room for, is a read
 pub reads_front : (at n : ℕ) (bytes buffer : List ℕ) → n ≡ min (length buffer) (length bytes - at)
     → Reads (drop at bytes) (drop (at + n) bytes) (take n (drop at bytes) ++ drop n buffer) n
 reads_front at n bytes buffer count = record {
