@@ -1,6 +1,9 @@
 //! What a connection answers, and the text in which a run's answers are printed.
 //!
 //! `specs/Output.antt` is the output form, line by line. `print` writes exactly that text.
+//! `read` answers the transcripts whose text the bytes are, or the place where no output goes on, if
+//! no memory is refused. Transcripts that `print` takes, without an empty row, have one text, and no
+//! other such transcripts have it.
 #![tactic(auto)]
 
 mod behind;
