@@ -1,5 +1,5 @@
 // Numbers in decimal digits, without leading zeros, within a range.
-ghost use Rattle.std.specs.Prelude.{◌≡◌, ℕ, ◌+◌, ◌*◌, ◌^◌, ◌<◌, ◌≤◌, ◌∷◌, ◌++◌, decimal, IfOk, IfErr, IfSome, IfNone, true, false};
+ghost use Rattle.std.specs.Prelude.{◌≡◌, ◌+◌, ◌*◌, ◌<◌, ◌≤◌, ◌∷◌, ◌++◌, decimal, IfOk, IfErr, IfSome, IfNone, true, false};
 ghost use Rattle.hc_reply.specs.Numbers.{IsWithin, SomeBegins, NoneBegins};
 ghost use Rattle.hc_reply.specs.Stops.{NoDigit, StopsIn};
 

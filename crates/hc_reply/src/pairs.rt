@@ -1,5 +1,5 @@
 // What stands behind the words of a line with several parts, or with an integer.
-ghost use Rattle.std.specs.Prelude.{◌≡◌, ℕ, ◌≤◌, [], ◌∷◌, ◌++◌, length, IfOk, IfErr};
+ghost use Rattle.std.specs.Prelude.{◌≡◌, ℕ, ◌++◌, IfOk, IfErr};
 ghost use Rattle.hc_reply.specs.declared.opening.Opening.TheVariants as opens;
 ghost use Rattle.hc_reply.specs.Items.{IsReadItem, StopsAtItem, names_of, numbers_of, IsKey, key_end};
 ghost use Rattle.hc_reply.specs.Stops.{Anything, StopsIn};

@@ -1,7 +1,5 @@
 // Whether two refusals are the same, by their parts.
 ghost use Rattle.std.specs.Prelude.{◌≡◌, ℕ, ◌↔◌, IsTrue};
-ghost use Rattle.hc_base.specs.declared.full.Full.{Full as Cause};
-ghost use Rattle.hc_lex.specs.declared.fault.LexKind.{LexKind as Kind};
 ghost use Rattle.hc_reply.specs.declared.refusal.Refusal.TheVariants as refusal;
 ghost use Rattle.hc_reply.specs.Parts.{kind_number, first_number, second_number, item_number, first_bytes, second_bytes};
 

@@ -1,5 +1,5 @@
 // Values at the front of bytes. The first byte tells the class.
-ghost use Rattle.std.specs.Prelude.{◌≡◌, ◌≢◌, List, ℕ, true, false, ◌∷◌, ◌++◌, ◌-◌, ◌^◌, ◌≤◌, negsuc, FitsSigned, IfOk, IfErr, IfSome, IfNone};
+ghost use Rattle.std.specs.Prelude.{◌≡◌, List, ℕ, true, false, ◌∷◌, ◌++◌, ◌-◌, ◌^◌, ◌≤◌, negsuc, FitsSigned, IfOk, IfErr, IfSome, IfNone};
 ghost use Rattle.std.specs.Fmt.{signed_decimal};
 ghost use Rattle.std.specs.Int.{w64};
 ghost use Rattle.hc_reply.specs.Output.{value_text};
