@@ -1,6 +1,7 @@
 -- The openings that were tried, and where none of them goes on.
 use Rattle.std.proofs.Common.{◌≡◌, ◌≢◌, ◌∙◌, ap, ℕ, ◌-◌, ◌<◌, ◌≤◌, ◌⊎◌, inl, inr, true, List, [], ◌∷◌, ◌++◌, length, take, drop, refl, sym, subst, arith}
 use Rattle.std.proofs.lemmas.List.{length-append, take_all, length-drop}
+use Rattle.std.proofs.lemmas.List.Prefix.{front_rest}
 use Rattle.hc_reply.specs.declared.turn.Turn.{Turn}
 use Rattle.hc_reply.specs.declared.opening.Opening.{Opening}
 use Rattle.hc_reply.specs.declared.opening.Opening.TheVariants.{Conn, Ok}
@@ -49,10 +50,6 @@ apart (x ∷ f) l r (b ∷ front) rest behind other same le e differ some first 
     let more : (f ++ l) ++ behind ≡ front ++ other = cc in
     apart f l r front rest behind other tail (omega (arith, le)) more differ some first
 
-drop_front : (front rest : List ℕ) → drop (length front) (front ++ rest) ≡ rest
-drop_front [] rest = refl
-drop_front (x ∷ front) rest = drop_front front rest
-
 pub stuck_there : (turn : Turn) (most : ℕ) (bytes : List ℕ) → Tried turn [] most bytes → IsBegun turn most bytes
     → IsStuck Anything (MayStand turn) opening_words bytes (take (length bytes - most) (drop most bytes))
 stuck_there turn most bytes tried b = record {
@@ -68,7 +65,7 @@ stuck_there turn most bytes tried b = record {
     left : take (length bytes - most) (drop most bytes) ≡ b.1
     left =
         take_all (length bytes - most) (drop most bytes) (omega (arith, length-drop most bytes))
-        ∙ ap (λ (k : ℕ). drop k bytes) (sym b.5) ∙ ap (λ (l : List ℕ). drop (length b.0) l) b.4 ∙ drop_front b.0 b.1
+        ∙ ap (λ (k : ℕ). drop k bytes) (sym b.5) ∙ front_rest bytes b.0 b.1 b.4
 
     by : (one : Opening) → IsAmong [] one ⊎ IsMissed most bytes (opening_words one) → (behind other : List ℕ) → SameFirst b.1 other → opening_words one ++ behind ≡ b.0 ++ other → ⊥
     by one (inl none) behind other same e = none

@@ -2,6 +2,7 @@
 use Rattle.std.proofs.Common.{◌≡◌, ◌≢◌, ◌∙◌, ap, ℕ, zero, suc, ◌-◌, ◌<◌, ◌≤◌, ◌⊎◌, inl, inr, List, [], ◌∷◌, ◌++◌, length, take, drop, refl, sym, subst, append_assoc, arith}
 use Rattle.std.specs.Prelude.{slice_index_or}
 use Rattle.std.proofs.lemmas.List.{append-nil, length-append, append_cancel_left, nil_from_length, take_all, length-drop}
+use Rattle.std.proofs.lemmas.List.Prefix.{front_rest}
 use Rattle.hc_reply.specs.Stops.{SameFirst, Anything, Differ, IsCommon, IsStuck, IsWord, the_word}
 
 -- the first n bytes are the same
@@ -61,12 +62,8 @@ common_is (suc n) (w ∷ word) (b ∷ bytes) front end = longer (common_is n wor
       differ = c.differ;
     }
 
-drop_front : (front rest : List ℕ) → drop (length front) (front ++ rest) ≡ rest
-drop_front [] rest = refl
-drop_front (x ∷ front) rest = drop_front front rest
-
 pub rest_is : (word bytes : List ℕ) (n : ℕ) (c : IsCommon word bytes n) → drop n bytes ≡ c.rest
-rest_is word bytes n c = ap (λ (k : ℕ). drop k bytes) (sym c.long) ∙ ap (λ (l : List ℕ). drop (length c.front) l) c.bytes_are ∙ drop_front c.front c.rest
+rest_is word bytes n c = ap (λ (k : ℕ). drop k bytes) (sym c.long) ∙ front_rest bytes c.front c.rest c.bytes_are
 
 pub whole_word : (word bytes : List ℕ) (n : ℕ) → IsCommon word bytes n → n ≡ length word → bytes ≡ word ++ drop n bytes
 whole_word word bytes n c whole =
