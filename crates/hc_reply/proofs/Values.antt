@@ -12,7 +12,7 @@ use Rattle.hc_reply.specs.Stops.{NoDigit, NoQuote, EndsValue, EndsBehind, SameFi
 use Rattle.hc_reply.proofs.Texts.{text_free}
 use Rattle.hc_reply.proofs.Blobs.{blob_free}
 use Rattle.hc_reply.proofs.Integers.{decimal_head, integer_free}
-use Rattle.hc_reply.proofs.Following.{head_there}
+use Rattle.hc_reply.proofs.Following.{same_ends, same_behind, head_there}
 
 -- which byte a value begins with
 abbrev HeadOf : Value → ℕ → Type 0
@@ -115,14 +115,8 @@ integer_stuck bytes rest may s = record {
 }
   where
     may_there : (before other : List ℕ) → bytes ≡ before ++ rest → SameFirst rest other → MayBeInteger (before ++ other)
-    may_there (x ∷ before) other splits same = subst MayBeInteger splits may
-    may_there [] other splits same = at rest other (subst MayBeInteger splits may) same
-      where
-        at : (r o : List ℕ) → MayBeInteger r → SameFirst r o → MayBeInteger o
-        at [] [] m h = tt
-        at [] (b ∷ o) m h = absurd h
-        at (a ∷ r) [] m h = absurd h
-        at (a ∷ r) (b ∷ o) m h = subst (λ (k : ℕ). (k ≢ 78) × (k ≢ 39) × (k ≢ 88)) h m
+    may_there before other splits same =
+        same_ends MayBeInteger (λ b rest other none. none) (before ++ rest) (before ++ other) (same_behind before rest other same) (subst MayBeInteger splits may)
 
     only : (v : Value) → IsPrintable v → (behind other : List ℕ) → EndsValue behind → SameFirst rest other → value_text v ++ behind ≡ s.before ++ other → ⊥
     only Null fits behind other ends same e = (subst MayBeInteger (sym e) (may_there s.before other s.splits same)).0 refl
