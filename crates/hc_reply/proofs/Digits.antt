@@ -11,22 +11,27 @@ use Rattle.hc_reply.specs.Stops.{NoDigit, SameFirst, IsStuck}
 use Rattle.hc_reply.proofs.Following.{IsPrefixFree, no_digit_there, same_byte}
 use Rattle.hc_reply.specs.Numbers.{IsWithin, BeginsWith, SomeBegins, NoneBegins}
 
+-- a byte from 48 to 57
 abbrev IsDigit : ℕ → Type 0
 IsDigit c = (48 ≤ c) × (c < 58)
 
+-- each byte is a digit
 abbrev pub AreDigits : List ℕ → Type 0
 AreDigits [] = Unit {0}
 AreDigits (c ∷ cs) = IsDigit c × AreDigits cs
 
+-- digits with one more behind them are digits
 digits_more : (cs : List ℕ) (d : ℕ) → AreDigits cs → d < 10 → AreDigits (cs ++ (48 + d) ∷ [])
 digits_more [] d are small = ((omega arith, omega arith), tt)
 digits_more (c ∷ cs) d are small = (are.0, digits_more cs d are.1 small)
 
+-- a number is written in digits
 pub decimal_digits : (n : ℕ) → n < 2 ^ 64 → AreDigits (decimal n)
 decimal_digits = decimal_by_steps (λ m ds. AreDigits ds) (λ m l. ((omega arith, omega arith), tt)) (λ m ds l h. digits_more ds (m % 10) h (omega arith))
 
 -- ---- the end of digits
 
+-- where no digit follows, the first byte is none
 no_digit_first : (c : ℕ) (rest : List ℕ) → NoDigit (c ∷ rest) → IsDigit c → ⊥
 no_digit_first c rest (inl low) is = omega (arith, is.0)
 no_digit_first c rest (inr high) is = omega (arith, is.1)
@@ -55,6 +60,7 @@ same_digits (x ∷ xs) (y ∷ ys) r s dx dy nr ns e =
 
 -- ---- numbers that begin with the digits of another
 
+-- lists that are the same with one element more each are the same
 ends_alike : (xs ys : List ℕ) (a b : ℕ) → xs ++ a ∷ [] ≡ ys ++ b ∷ [] → xs ≡ ys
 ends_alike [] [] a b e = refl
 ends_alike [] (y ∷ ys) a b e = absurd (omega (arith, ap length e, length-append ys (b ∷ [])))
@@ -87,10 +93,12 @@ shorter_begins n m small above ten begins = by (last_of begins.0)
           (sym (decimal_step n ten small) ∙ begins.1 ∙ ap (λ (l : List ℕ). decimal m ++ l) some.2 ∙ sym (append_assoc (decimal m) some.0 (some.1 ∷ []))),
     )
 
+-- the value of digits behind others, by the value of those
 value_after : (a : ℕ) (xs ys : List ℕ) → digits_value_after 10 a (xs ++ ys) ≡ digits_value_after 10 (digits_value_after 10 a xs) ys
 value_after a [] ys = refl
 value_after a (x ∷ xs) ys = value_after (a * 10 + digit_value x) xs ys
 
+-- digits behind a number make it no less
 value_grows : (n : ℕ) (ds : List ℕ) → n ≤ digits_value_after 10 n ds
 value_grows n [] = omega arith
 value_grows n (c ∷ cs) = omega (arith, value_grows (n * 10 + digit_value c) cs)
@@ -103,25 +111,31 @@ begins_above n m small wide begins =
     ∙ ap (λ (k : ℕ). digits_value_after 10 k begins.0) (decimal_is_IsNumeral_wide m wide).1 in
     omega (arith, value_grows m begins.0)
 
+-- a number begins with its own digits
 begins_itself : (m : ℕ) → BeginsWith m m
 begins_itself m = ([], sym (append-nil (decimal m)))
 
+-- the first byte of a number is a digit
 first_digit : (n c : ℕ) (more : List ℕ) → n < 2 ^ 64 → decimal n ≡ c ∷ more → IsDigit c
 first_digit n c more small e = (subst AreDigits e (decimal_digits n small)).0
 
 -- ---- whether some number of a range begins so
 
+-- within the range, the number itself begins so
 pub some_itself : (m low high : ℕ) → low ≤ m → m ≤ high → SomeBegins m low high
 some_itself m low high above within = (m, (above, within), begins_itself m)
 
+-- no number of the range begins with one above the range
 pub none_above : (m low high : ℕ) → high < 2 ^ 64 → m < 10 ^ 64 → high < m → NoneBegins m low high
 none_above m low high small wide above n is begins = omega (arith, is.1, begins_above n m (omega (arith, is.1)) wide begins)
 
+-- no number above zero begins with a zero
 pub none_with_zero : (low high : ℕ) → high < 2 ^ 64 → 0 < low → NoneBegins 0 low high
 none_with_zero low high small above n is begins =
     let first : get_or (decimal n) 0 0 ≡ 48 = ap (λ (l : List ℕ). get_or l 0 0) (begins.1 ∙ ap (λ (l : List ℕ). l ++ begins.0) (decimal_digit 0 (omega arith))) in
     omega (arith, first, first_decimal n (omega (arith, is.0)) (omega (arith, is.1)))
 
+-- where some number of the range without last digits begins so, some number of the range does
 pub some_longer : (m low high : ℕ) → high < 2 ^ 64 → low ≤ high → 0 < m → m < 2 ^ 64 → SomeBegins m (low / 10) (high / 10) → SomeBegins m low high
 some_longer m low high small le some fits shorter = by (cases_lt (shorter.0 * 10) low)
   where
@@ -144,6 +158,7 @@ some_longer m low high small le some fits shorter = by (cases_lt (shorter.0 * 10
         let within : shorter.0 * 10 ≤ high = omega (arith, shorter.1.1) in
         (shorter.0 * 10, (above, within), longer (shorter.0 * 10) is within)
 
+-- where no number of the range without last digits begins so, none of the range does, with m below it
 pub none_longer : (m low high : ℕ) → high < 2 ^ 64 → m < low → NoneBegins m (low / 10) (high / 10) → NoneBegins m low high
 none_longer m low high small below none n is begins = by (cases_lt n 10)
   where
@@ -158,12 +173,15 @@ none_longer m low high small below none n is begins = by (cases_lt n 10)
 -- ---- a reader of digits, over its bytes
 
 module _ (low high : ℕ) (le : low ≤ high) (small : high < 2 ^ 64) where
+  -- a stop in a number of the range
   abbrev Stuck : List ℕ → List ℕ → Type 0
   Stuck bytes rest = IsStuck NoDigit (IsWithin low high) decimal bytes rest
 
+  -- a number of the range has 64 bits
   fits : (v : ℕ) → IsWithin low high v → v < 2 ^ 64
   fits v is = omega (arith, is.1)
 
+  -- no number of the range begins another, where no digit follows
   pub number_free : IsPrefixFree NoDigit (IsWithin low high) decimal
   number_free v w r s isv isw nr ns e =
       let both = same_digits (decimal v) (decimal w) r s (decimal_digits v (fits v isv)) (decimal_digits w (fits w isw)) nr ns e in
@@ -194,6 +212,7 @@ module _ (low high : ℕ) (le : low ≤ high) (small : high < 2 ^ 64) where
     none = none;
   }
 
+  -- a stop where no digit stands
   pub stuck_without_digit : (bytes : List ℕ) → NoDigit bytes → Stuck bytes bytes
   stuck_without_digit bytes nd = stuck_at_start bytes (λ v behind other is ends same e. wrong v (decimal v) refl behind other is (no_digit_there bytes other same nd) e)
     where
@@ -202,6 +221,7 @@ module _ (low high : ℕ) (le : low ≤ high) (small : high < 2 ^ 64) where
       wrong v (c ∷ ds) is behind other within none e =
           no_digit_first c (ds ++ behind) (subst NoDigit (sym e ∙ ap (λ (l : List ℕ). l ++ behind) is) none) (first_digit v c ds (fits v within) is)
 
+  -- a stop at a first digit with which no number of the range begins
   pub stuck_at_first : (d : ℕ) (bytes behind : List ℕ) → d < 10 → bytes ≡ (48 + d) ∷ behind → NoneBegins d low high → Stuck bytes bytes
   stuck_at_first d bytes behind one all nd = stuck_at_start bytes (λ v after other is ends same e.
       let o = same_byte (48 + d) behind other (subst (λ (l : List ℕ). SameFirst l other) all same) in
@@ -213,12 +233,14 @@ module _ (low high : ℕ) (le : low ≤ high) (small : high < 2 ^ 64) where
   no_more_behind_zero zero c more fit e = omega (arith, ap length (sym (decimal_digit 0 (omega arith)) ∙ e))
   no_more_behind_zero (suc v) c more fit e = omega (arith, ap (λ (l : List ℕ). get_or l 0 0) e, first_decimal (suc v) (omega arith) fit)
 
+  -- one digit more, behind a number above zero
   digit_behind : (n d : ℕ) → 0 < n → n < 2 ^ 64 → d < 10 → decimal (n * 10 + d) ≡ decimal n ++ (48 + d) ∷ []
   digit_behind n d some fit one =
       let front : (n * 10 + d) / 10 ≡ n = omega arith in
       let end : 48 + (n * 10 + d) % 10 ≡ 48 + d = omega arith in
       decimal_step_wide (n * 10 + d) (omega arith) (omega arith) ∙ (λ i. decimal (front i) ++ (end i ∷ []))
 
+  -- a stop at a further digit: behind a zero, or where no number of the range begins so
   pub stuck_at_digit : (n d : ℕ) (bytes rest behind : List ℕ) → n < 2 ^ 64 → d < 10 → bytes ≡ decimal n ++ rest → rest ≡ (48 + d) ∷ behind → SomeBegins n low high
       → (0 < n → NoneBegins (n * 10 + d) low high) → Stuck bytes rest
   stuck_at_digit n d bytes rest behind fit one all first some nd = stuck_behind n bytes rest all some (λ v after other is ends same e.
@@ -232,18 +254,22 @@ module _ (low high : ℕ) (le : low ≤ high) (small : high < 2 ^ 64) where
           let above : 0 < n = omega arith in
           nd above v is (more, e ∙ sym (append_assoc (decimal n) ((48 + d) ∷ []) more) ∙ ap (λ (l : List ℕ). l ++ more) (sym (digit_behind n d above fit one)))
 
+  -- a stop where the digits end below the range
   pub stuck_too_low : (n : ℕ) (bytes rest : List ℕ) → n < 2 ^ 64 → bytes ≡ decimal n ++ rest → NoDigit rest → SomeBegins n low high → n < low → Stuck bytes rest
   stuck_too_low n bytes rest fit all nd some below = stuck_behind n bytes rest all some (λ v after other is ends same e.
       let both = same_digits (decimal v) (decimal n) after other (decimal_digits v (fits v is)) (decimal_digits n fit) ends (no_digit_there rest other same nd) e in
       omega (arith, decimal_injective v n (fits v is) fit both.0, is.0))
 
+  -- a number with which one of the range begins is not above the range
   pub within_high : (n : ℕ) → n < 10 ^ 64 → SomeBegins n low high → n ≤ high
   within_high n fit some = omega (arith, some.1.1, begins_above some.0 n (fits some.0 some.1) fit some.2)
 
+  -- with one digit more, the bytes begin with the longer number
   pub one_more : (n d longer : ℕ) (bytes rest behind : List ℕ) → 0 < n → n < 2 ^ 64 → d < 10 → longer ≡ n * 10 + d → bytes ≡ decimal n ++ rest → rest ≡ (48 + d) ∷ behind → bytes ≡ decimal longer ++ behind
   one_more n d longer bytes rest behind some fit one is all first =
       all ∙ ap (λ (l : List ℕ). decimal n ++ l) first ∙ sym (append_assoc (decimal n) ((48 + d) ∷ []) behind)
       ∙ ap (λ (l : List ℕ). l ++ behind) (sym (digit_behind n d some fit one) ∙ ap decimal (sym is))
 
+-- bytes that begin with a digit begin with its number
 pub one_digit : (d : ℕ) (bytes behind : List ℕ) → d < 10 → bytes ≡ (48 + d) ∷ behind → bytes ≡ decimal d ++ behind
 one_digit d bytes behind one all = all ∙ ap (λ (l : List ℕ). l ++ behind) (sym (decimal_digit d one))

@@ -16,6 +16,7 @@ use Rattle.hc_reply.specs.declared.opening.NumbersLine.TheVariants as numbers
 use Rattle.hc_reply.specs.declared.opening.Opening.{Opening}
 use Rattle.hc_reply.specs.declared.opening.Opening.TheVariants.{Conn, Row, Ok, Ending, Bare, Number, Name, Names, Numbers, NoItem, TooBig, Busy}
 
+-- the openings, in the order of the table
 abbrev pub all_openings : List Opening
 all_openings =
     Row ∷
@@ -62,6 +63,7 @@ all_openings =
     Busy ∷
     []
 
+-- every opening is in the table
 pub each_is_among : (opening : Opening) → IsAmong all_openings opening
 each_is_among Row = inl refl
 each_is_among Ok = inr (inl refl)
@@ -112,6 +114,7 @@ begins [] bytes = true
 begins (w ∷ word) [] = false
 begins (w ∷ word) (b ∷ bytes) = if w == b then begins word bytes else false
 
+-- the first of these with whose words the bytes begin
 first_among : List Opening → List ℕ → Option Opening
 first_among [] bytes = None
 first_among (one ∷ others) bytes = if begins (opening_words one) bytes then Some one else first_among others bytes
@@ -162,10 +165,12 @@ found NoItem r = refl
 found TooBig r = refl
 found Busy r = refl
 
+-- the opening, where there is one
 opening_of : Option Opening → Opening
 opening_of None = Conn
 opening_of (Some opening) = opening
 
+-- no opening's words begin another's
 pub opening_free : (IsOne : Opening → Type 0) → IsPrefixFree Anything IsOne opening_words
 unfolding opening_of
 opening_free IsOne v w r s p q any more e =

@@ -18,9 +18,11 @@ same_ends Ends told [] (o ∷ other) same ends = absurd same
 same_ends Ends told (r ∷ rest) [] same ends = absurd same
 same_ends Ends told (r ∷ rest) (o ∷ other) same ends = subst (λ (b : ℕ). Ends (b ∷ other)) same (told r rest other ends)
 
+-- the same where no digit may follow
 pub no_digit_there : (rest other : List ℕ) → SameFirst rest other → NoDigit rest → NoDigit other
 no_digit_there = same_ends NoDigit (λ b rest other none. none)
 
+-- the same where no quote may follow
 pub no_quote_there : (rest other : List ℕ) → SameFirst rest other → NoQuote rest → NoQuote other
 no_quote_there = same_ends NoQuote (λ b rest other none. none)
 

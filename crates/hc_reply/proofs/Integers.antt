@@ -16,13 +16,16 @@ decimal_head n behind b o small e = by (decimal n) (decimal_digits n small) (dec
     by [] are some e = absurd (omega (arith, some))
     by (d ∷ ds) are some e = let first : d ≡ b = cc in (omega (arith, are.0, first), omega (arith, are.0, first))
 
+-- where no minus comes first, none does in what goes on with the same byte
 no_minus_there : (bytes before rest other : List ℕ) → bytes ≡ before ++ rest → SameFirst rest other → NoMinus bytes → NoMinus (before ++ other)
 no_minus_there bytes before rest other splits same none =
     same_ends NoMinus (λ b rest other none. none) (before ++ rest) (before ++ other) (same_behind before rest other same) (subst NoMinus splits none)
 
+-- a stop in an integer of 64 bits
 abbrev Stuck : List ℕ → List ℕ → Type 0
 Stuck bytes rest = IsStuck NoDigit (FitsSigned w64) signed_decimal bytes rest
 
+-- no integer begins another, where no digit follows
 pub integer_free : IsPrefixFree NoDigit (FitsSigned w64) signed_decimal
 integer_free (pos m) (pos n) r s p q nr ns e =
     let both = number_free 0 (2 ^ 63 - 1) (omega arith) (omega arith) m n r s (omega arith, omega (arith, p)) (omega arith, omega (arith, q)) nr ns e in
@@ -34,6 +37,7 @@ integer_free (negsuc m) (negsuc n) r s p q nr ns e =
     let both = number_free 1 (2 ^ 63) (omega arith) (omega arith) (suc m) (suc n) r s (omega arith, omega (arith, p)) (omega arith, omega (arith, q)) nr ns inner in
     (ap negsuc (omega (arith, both.0)), both.1)
 
+-- where no minus comes first, a stop in the number is a stop in the integer
 pub stuck_without_minus : (bytes rest : List ℕ) → NoMinus bytes → IsStuck NoDigit (IsWithin 0 (2 ^ 63 - 1)) decimal bytes rest → Stuck bytes rest
 stuck_without_minus bytes rest none s = record {
   before = s.before;
@@ -49,6 +53,7 @@ stuck_without_minus bytes rest none s = record {
     no_other (pos n) behind other fits ends same e = s.none n behind other (omega arith, omega (arith, fits)) ends same e
     no_other (negsuc n) behind other fits ends same e = subst NoMinus (sym e) (no_minus_there bytes s.before rest other s.splits same none) refl
 
+-- and so is one in the number behind a minus
 pub stuck_behind_minus : (bytes digits rest : List ℕ) → bytes ≡ 45 ∷ digits → IsStuck NoDigit (IsWithin 1 (2 ^ 63)) decimal digits rest → Stuck bytes rest
 stuck_behind_minus bytes digits rest minus s = by s.value refl
   where

@@ -42,12 +42,15 @@ some_behind low opens.TooBig small = (0, omega arith)
 some_behind low opens.Busy small = ((0, 0, []), (omega arith, omega arith, omega arith, tt))
 
 module _ (turn : Turn) (low : ℕ) where
+  -- a stop in a line that may stand here
   abbrev Stuck : List ℕ → List ℕ → Type 0
   Stuck bytes rest = IsStuck Anything (IsItem turn low) item_text bytes rest
 
+  -- the item of an opening that may stand here and of what fits behind it may stand here
   is_item : (opening : Opening) (behind : Behind opening) → MayStand turn opening → FitsFrom low opening behind → IsItem turn low (item_of opening behind)
   is_item opening behind may fits = subst (IsLine turn low) (sym (spelled_again opening behind)) (may, fits)
 
+  -- a stop in the opening is a stop in the line
   pub stuck_in_opening : (turn.conn ≡ true → low < 2 ^ 32) → (bytes rest : List ℕ) → IsStuck Anything (MayStand turn) opening_words bytes rest → Stuck bytes rest
   stuck_in_opening small bytes rest s = record {
     before = s.before;
@@ -64,6 +67,7 @@ module _ (turn : Turn) (low : ℕ) where
       some : (behind : Behind s.value) × FitsFrom low s.value behind
       some = some_behind low s.value (λ conn. small (subst (MayStand turn) conn s.has))
 
+  -- a stop in what stands behind the opening is a stop in the line
   pub stuck_behind : (opening : Opening) (bytes mid rest : List ℕ) → MayStand turn opening → bytes ≡ opening_words opening ++ mid
       → IsStuck Anything (FitsFrom low opening) (behind_end opening) mid rest → Stuck bytes rest
   stuck_behind opening bytes mid rest may all s = record {
@@ -87,6 +91,7 @@ module _ (turn : Turn) (low : ℕ) where
           subst (λ (h : Opening). (v : Behind h) → FitsFrom low h v → behind_end h v ++ behind ≡ s.before ++ other → ⊥) (sym is)
           (λ v f g. s.none v behind other f tt same g) b fits e
 
+  -- an item read behind its opening may stand here, and the bytes begin with its text
   pub item_found : (opening : Opening) (bytes mid rest : List ℕ) (line : Item) → MayStand turn opening → bytes ≡ opening_words opening ++ mid → IsReadItem low opening mid line rest
       → IsItem turn low line × (bytes ≡ item_text line ++ rest)
   item_found opening bytes mid rest line may all read = (

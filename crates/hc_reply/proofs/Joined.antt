@@ -9,6 +9,7 @@ use Rattle.hc_reply.specs.Output.{value_text}
 abbrev pub behind_bar : Value → List ℕ
 behind_bar value = 124 ∷ value_text value
 
+-- values with bars between them are the first, and each other with a bar in front
 join_cons : (value : Value) (values : List Value) → join_with_byte 124 (map value_text (value ∷ values)) ≡ value_text value ++ flat_map behind_bar values
 join_cons value [] = sym (append-nil (value_text value))
 join_cons value (next ∷ values) = ap (λ (l : List ℕ). value_text value ++ 124 ∷ l) (join_cons next values)

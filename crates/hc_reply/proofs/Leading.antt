@@ -20,24 +20,29 @@ use Rattle.hc_reply.proofs.LinesFree.{IsFittingItem, item_free}
 
 -- ---- where lines lead
 
+-- where lines lead, what was read is right, and its text is longer by theirs
 pub leads_is : (p : Progress) (lines : List Item) (q : Progress) → IsProgress p → Leads p lines q → IsProgress q × (text_of q ≡ text_of p ++ lines_text lines)
 leads_is p [] q is leads = (subst IsProgress leads is, ap text_of (sym leads) ∙ sym (append-nil (text_of p)))
 leads_is p (line ∷ lines) q is leads =
     let more = leads_is (step p line) lines q (step_is p line is leads.0) leads.1 in
     (more.0, more.1 ∙ ap (λ (l : List ℕ). l ++ lines_text lines) (step_text p line is leads.0) ∙ append_assoc (text_of p) (item_text line) (lines_text lines))
 
+-- lines lead on from where others lead
 pub leads_on : (p : Progress) (xs ys : List Item) (q r : Progress) → Leads p xs q → Leads q ys r → Leads p (xs ++ ys) r
 leads_on p [] ys q r one two = subst (λ (s : Progress). Leads s ys r) (sym one) two
 leads_on p (x ∷ xs) ys q r one two = (one.0, leads_on (step p x) xs ys q r one.1 two)
 
+-- lines behind others lead on from where those lead
 pub leads_split : (p : Progress) (xs ys : List Item) (q r : Progress) → Leads p (xs ++ ys) r → Leads p xs q → Leads q ys r
 leads_split p [] ys q r all one = subst (λ (s : Progress). Leads s ys r) one all
 leads_split p (x ∷ xs) ys q r all one = leads_split (step p x) xs ys q r all.1 one.1
 
+-- in lines that lead somewhere, what stands behind the words fits
 pub leads_fitting : (p : Progress) (lines : List Item) (q : Progress) → Leads p lines q → AllByRecursion IsFittingItem lines
 leads_fitting p [] q leads = tt
 leads_fitting p (line ∷ lines) q leads = (fits_of (low_of p) (item_as spelling line).0 (item_as spelling line).1 leads.0.1, leads_fitting (step p line) lines q leads.1)
 
+-- behind one more reply and no row, nothing is left open
 some_closed : (k : Option ℕ) (replies : List Reply) (r : Reply) → may_close k (replies ++ r ∷ []) [] ≡ true
 some_closed None replies r = refl
 some_closed (Some c) [] r = refl
@@ -62,6 +67,7 @@ completes p = by (is_whole p) refl
 
 -- ---- lists of lines with one text
 
+-- a line has at least one byte
 pub item_long : (line : Item) → 0 < length (item_text line)
 item_long line =
     let o = (item_as spelling line).0 in
@@ -70,6 +76,7 @@ item_long line =
     ap length (item_text-is line) ∙ length-append (opening_words o ++ behind_text o b) (10 ∷ []) in
     omega (arith, long)
 
+-- lines whose text begins with that of others begin with those, and what is left is the text of the rest
 pub cut : (xs ys : List Item) (more : List ℕ) → AllByRecursion IsFittingItem xs → AllByRecursion IsFittingItem ys → lines_text xs ≡ lines_text ys ++ more
     → (zs : List Item) × (xs ≡ ys ++ zs) × (more ≡ lines_text zs)
 cut xs [] more fx fy e = (xs, refl, sym e)

@@ -32,24 +32,30 @@ use Rattle.hc_reply.proofs.Spelled.{item_again}
 abbrev line_number : ℕ → List ℕ
 line_number n = decimal n ++ 10 ∷ []
 
+-- no number up to a bound, with the line's end, begins another
 within_free : (high : ℕ) → high < 2 ^ 64 → IsPrefixFree Anything (IsWithin 0 high) line_number
 within_free high small = ended_free NoDigit (IsWithin 0 high) decimal (10 ∷ []) (λ behind. inl (omega arith)) (number_free 0 high (omega arith) small)
 
+-- no number of 32 bits, with the line's end, begins another
 number_line_free : IsPrefixFree Anything (λ n. n < 2 ^ 32) line_number
 number_line_free n m r s p q any more e = within_free 4294967295 (omega arith) n m r s (omega arith, omega (arith, p)) (omega arith, omega (arith, q)) tt tt e
 
+-- and none of 64 bits does
 count_free : IsPrefixFree Anything (λ n. n < 2 ^ 64) line_number
 count_free n m r s p q any more e = within_free 18446744073709551615 (omega arith) n m r s (omega arith, omega (arith, p)) (omega arith, omega (arith, q)) tt tt e
 
+-- no name with the line's end begins another
 second_name_free : IsPrefixFree Anything IsUtf8 second_name
 second_name_free = ended_free NoQuote IsUtf8 quoted (10 ∷ []) (λ behind e. omega (arith, e)) text_free
 
+-- no two names with the line's end begin two others
 names_free : (line : NamesLine) → IsPrefixFree Anything (Fits (opens.Names line)) (behind_end (opens.Names line))
 names_free line =
     free_told Anything (λ (p : List ℕ × List ℕ). IsUtf8 p.0 × IsUtf8 p.1) (λ (p : List ℕ × List ℕ). first_name p.0 ++ second_name p.1) (Fits (opens.Names line)) (behind_end (opens.Names line)) (λ p. p) (λ p. p)
     (λ w h. h) (λ w. names_same 0 line w) (λ w. refl)
     (both_free Anything IsUtf8 first_name IsUtf8 second_name (λ w behind h. tt) name_free second_name_free)
 
+-- no two numbers with the line's end begin two others
 numbers_free : (line : NumbersLine) → IsPrefixFree Anything (Fits (opens.Numbers line)) (behind_end (opens.Numbers line))
 numbers_free line =
     free_told Anything (λ (p : ℕ × ℕ). Is32 p.0 × Is32 p.1) (λ (p : ℕ × ℕ). first_number 0 line p.0 ++ second_number 0 line p.1) (Fits (opens.Numbers line)) (behind_end (opens.Numbers line)) (λ p. p) (λ p. p)
@@ -58,9 +64,11 @@ numbers_free line =
     (ended_free NoDigit Is32 decimal _ (between_ends line) (number_free 0 4294967295 (omega arith) (omega arith)))
     (within_free 4294967295 (omega arith)))
 
+-- no key with the line's end begins another
 key_free : IsPrefixFree Anything IsKey key_end
 key_free = ended_free Anything (IsBlob (Some 463)) blob_text (10 ∷ []) (λ behind. tt) (blob_free (Some 463))
 
+-- behind the words of a busy key, no line begins another
 busy_free : IsPrefixFree Anything (Fits opens.Busy) (behind_end opens.Busy)
 busy_free =
     free_told Anything IsNested nested_text (Fits opens.Busy) (behind_end opens.Busy) (λ p. (p.0, p.1.0, p.1.1)) (λ w. (w.0, (w.1, w.2)))
@@ -84,6 +92,7 @@ behind_free opens.NoItem = ended_free NoDigit (FitsSigned w64) signed_decimal (1
 behind_free opens.TooBig = count_free
 behind_free opens.Busy = busy_free
 
+-- what stands behind the words of the item's line fits
 abbrev pub IsFittingItem : Item → Type 0
 IsFittingItem line = IsFitting (item_as spelling line)
 

@@ -42,13 +42,16 @@ goes_on lines p leads ts are more e =
     let c = cut (all_lines ts) lines more (leads_fitting start (all_lines ts) w.0 w.1) (leads_fitting start lines p leads) (sym (by_lines ts are) ∙ e) in
     (c.0, w.0, leads_split start lines c.0 p w.0 (subst (λ (l : List Item). Leads start l w.0) c.1 w.1) leads, w.2, w.3, c.2)
 
+-- only no lines have no text
 no_lines : (zs : List Item) → [] ≡ lines_text zs → zs ≡ []
 no_lines [] e = refl
 no_lines (z ∷ zs) e = absurd (omega (arith, item_long z, ap length e, length-append (item_text z) (lines_text zs)))
 
+-- transcripts have one text, as the law says it
 pub one_spelling : OneSpelling
 one_spelling one other transcripts a b = a.1 ∙ sym b.1
 
+-- no two lists of transcripts have the same text, as the law says it
 pub outputs_differ : OutputsDiffer
 outputs_differ one other a b e =
     let w = whole_leads other b in
@@ -56,6 +59,7 @@ outputs_differ one other a b e =
     let same : w.0 ≡ g.1 = subst (λ (l : List Item). Leads w.0 l g.1) (no_lines g.0 g.5) g.2 in
     sym g.4 ∙ ap finish (sym same) ∙ w.3
 
+-- an output has no fault, as the law says it
 pub no_fault : OutputsHaveNoFault
 no_fault bytes at output fault = by fault.1 fault.2 fault.5
   where
@@ -70,6 +74,7 @@ is_output lines p leads whole =
     (finished p is.0 whole, sym is.1 ∙ sym (finished_text p is.0 whole))
 
 module _ (lines : List Item) (p : Progress) (leads : Leads start lines p) (bytes rest : List ℕ) (all : bytes ≡ lines_text lines ++ rest) where
+  -- the lines and the front of one that may follow begin an output
   begins : (line : Item) (before more : List ℕ) → MayFollow p line → item_text line ≡ before ++ more → BeginsOutput (lines_text lines ++ before)
   begins line before more may e =
       let c = completes (step p line) in
@@ -127,16 +132,19 @@ module _ (lines : List Item) (p : Progress) (leads : Leads start lines p) (bytes
 -- ---- the loop's reader
 
 module _ (bytes rest : List ℕ) (p : Progress) (read : IsRead bytes rest p) where
+  -- a stop in the next line is a fault of the bytes, or a want of memory
   pub stop_is_fault : (rest ≡ [] → is_whole p ≡ true → ⊥) → (stop : Stop) → StopsIn Anything (IsItem (turn_of p) (low_of p)) item_text rest stop → IsReplyFault bytes (fault_of (length bytes) stop)
   stop_is_fault unended (stops.At end) s = fault_there read.lines p read.leads bytes rest read.all unended end.now s
   stop_is_fault unended stops.NoMemory s = tt
 
+  -- in an output, a stop in the next line is a want of memory
   pub fault_of_none : (rest ≡ [] → is_whole p ≡ true → ⊥) → (stop : Stop) → StopsIn Anything (IsItem (turn_of p) (low_of p)) item_text rest stop → (ts : List Transcript) → AreTranscripts ts
       → bytes ≡ output_text ts → fault_of (length bytes) stop ≡ fault.NoMemory
   fault_of_none unended (stops.At end) s ts are e =
       absurd (no_fault bytes (length bytes - length end.now) (ts, are, sym e) (fault_there read.lines p read.leads bytes rest read.all unended end.now s))
   fault_of_none unended stops.NoMemory s ts are e = refl
 
+  -- with a line that may follow, one line more was read
   pub read_on : (line : Item) (left : List ℕ) (next : Progress) → MayFollow p line → rest ≡ item_text line ++ left → next ≡ step p line → IsRead bytes left next
   read_on line left next may here is = record {
     lines = read.lines ++ line ∷ [];
@@ -145,6 +153,7 @@ module _ (bytes rest : List ℕ) (p : Progress) (read : IsRead bytes rest p) whe
         ∙ ap (λ (l : List ℕ). l ++ left) (ap (λ (l : List ℕ). lines_text read.lines ++ l) (sym (append-nil (item_text line))) ∙ sym (flat_map-append item_text read.lines (line ∷ [])));
   }
 
+  -- at the end, where nothing is left open, the bytes are the text of the transcripts
   pub read_all : rest ≡ [] → is_whole p ≡ true → (ts : List Transcript) → ts ≡ finish p → AreTranscripts ts × (bytes ≡ output_text ts)
   read_all end whole ts is =
       let out = is_output read.lines p read.leads whole in (
@@ -158,6 +167,7 @@ at_turn P {t} {u} {m} {n} same low holds = subst (P u) low (subst (λ (s : Turn)
 
 -- ---- one fault
 
+-- of two fronts of the same bytes, the longer one goes on from the shorter with its next byte
 longer : (xs ys zs others : List ℕ) → xs ++ ys ≡ zs ++ others → length xs < length zs → (b : ℕ) × (x : List ℕ) × (y : List ℕ) × (zs ≡ xs ++ b ∷ x) × (ys ≡ b ∷ y)
 longer [] ys [] others e less = absurd (omega (arith, less))
 longer [] ys (z ∷ zs) others e less = (z, zs, zs ++ others, refl, e)
@@ -168,6 +178,7 @@ longer (x ∷ xs) ys (z ∷ zs) others e less =
     let more = longer xs ys zs others tail (omega (arith, less)) in
     (more.0, more.1, more.2, (λ i. (first i) ∷ (more.3 i)), more.4)
 
+-- within what begins an output, there is no place where none goes on
 not_before : (xs ys zs others : List ℕ) → xs ++ ys ≡ zs ++ others → length xs < length zs → BeginsOutput zs → NoOutputGoesOn xs ys → ⊥
 not_before xs ys zs others e less begun none =
     let l = longer xs ys zs others e less in
@@ -177,6 +188,7 @@ not_before xs ys zs others e less begun none =
       subst IsOutput (ap (λ (k : List ℕ). k ++ begun.0) (l.3 ∙ sym (append_assoc xs (l.0 ∷ []) l.1)) ∙ append_assoc (xs ++ l.0 ∷ []) l.1 begun.0) begun.1,
     )
 
+-- bytes are at fault at one place at most, as the law says it
 pub one_fault : OneFault
 one_fault bytes at other f g = by (cases_lt at other)
   where

@@ -23,10 +23,12 @@ Leads p (line ∷ lines) q = MayFollow p line × Leads (step p line) lines q
 
 -- ---- what holds of all that was read
 
+-- the last line of the open reply, where it was read, is one of an output
 abbrev pub IsOpenLast : Option Line → Type 0
 IsOpenLast None = Unit {0}
 IsOpenLast (Some line) = IsLast line
 
+-- the connections' numbers
 abbrev pub conns : List Transcript → List ℕ
 conns transcripts = map (λ t. t.conn) transcripts
 
@@ -35,6 +37,7 @@ abbrev pub IsOpenConn : Progress → Option ℕ → Type 0
 IsOpenConn p None = p ≡ start
 IsOpenConn p (Some conn) = Fits opens.Conn conn × IsStrictlyIncreasing (conns p.done ++ conn ∷ [])
 
+-- each part of what was read is one of an output
 pub record IsProgress (p : Progress) : Type 0 where
   pub opened : IsOpenConn p p.conn
   pub transcripts : AllByRecursion IsTranscript p.done
@@ -46,6 +49,7 @@ pub record IsProgress (p : Progress) : Type 0 where
 abbrev pub lines_text : List Item → List ℕ
 lines_text lines = flat_map item_text lines
 
+-- the line of the open connection, where there is one
 abbrev pub conn_text_if : Option ℕ → List ℕ
 conn_text_if None = []
 conn_text_if (Some conn) = line_text opens.Conn conn

@@ -29,6 +29,7 @@ IsOfReply opens.NoItem = Unit {0}
 IsOfReply opens.TooBig = Unit {0}
 IsOfReply opens.Busy = Unit {0}
 
+-- a last line is a line of a reply
 last_is_of_reply : (line : Line) → IsOfReply (last_as spelling line).0
 last_is_of_reply (last.Ok count) = tt
 last_is_of_reply (last.Error (refusal.Lex kind at)) = tt
@@ -65,6 +66,7 @@ last_is_of_reply (last.Error (refusal.NotNull t u)) = tt
 last_is_of_reply (last.Error (refusal.Primary t u)) = tt
 last_is_of_reply (last.Error (refusal.Unique t u)) = tt
 
+-- a line of a reply may stand where a reply's lines may
 of_reply_stands : (turn : Turn) (opening : Opening) → IsOfReply opening → may_stand turn opening ≡ turn.reply
 of_reply_stands turn opens.Conn is = absurd is
 of_reply_stands turn opens.Row is = refl
@@ -79,6 +81,7 @@ of_reply_stands turn opens.NoItem is = refl
 of_reply_stands turn opens.TooBig is = refl
 of_reply_stands turn opens.Busy is = refl
 
+-- what fits in a line of a reply fits from any number on
 from_any : (low : ℕ) (opening : Opening) (behind : Behind opening) → IsOfReply opening → Fits opening behind → FitsFrom low opening behind
 from_any low opens.Conn b is fits = absurd is
 from_any low opens.Row b is fits = fits
@@ -112,14 +115,17 @@ fits_of low opens.Busy b fits = fits
 pub last_stands : (turn : Turn) (line : Line) → may_stand turn (last_as spelling line).0 ≡ turn.reply
 last_stands turn line = of_reply_stands turn (last_as spelling line).0 (last_is_of_reply line)
 
+-- what fits in a last line fits from any number on
 pub last_from : (low : ℕ) (line : Line) → Fits (last_as spelling line).0 (last_as spelling line).1 → FitsFrom low (last_as spelling line).0 (last_as spelling line).1
 last_from low line fits = from_any low (last_as spelling line).0 (last_as spelling line).1 (last_is_of_reply line) fits
 
+-- an ending may stand where endings may
 pub ending_stands : (turn : Turn) (line : Ending) → may_stand turn (ending_as spelling line).0 ≡ turn.ending
 ending_stands turn (end.Commit k) = refl
 ending_stands turn (end.Snapshot s) = refl
 ending_stands turn (end.RolledBack s) = refl
 
+-- what fits in an ending fits from any number on
 pub ending_from : (low : ℕ) (line : Ending) → Fits (ending_as spelling line).0 (ending_as spelling line).1 → FitsFrom low (ending_as spelling line).0 (ending_as spelling line).1
 ending_from low (end.Commit k) fits = fits
 ending_from low (end.Snapshot s) fits = fits

@@ -16,6 +16,7 @@ use Rattle.hc_reply.proofs.Values.{value_free}
 abbrev pub before_bars : List Value → List ℕ
 before_bars values = flat_map (λ v. value_text v ++ 124 ∷ []) values
 
+-- at least one value, and each printable
 abbrev IsRow : List Value → Type 0
 IsRow values = Fits opens.Row values
 
@@ -24,20 +25,24 @@ pub ends_value : (b : Bool) (r : List ℕ) → EndsValue (separator b ∷ r)
 ends_value true r = (inl (omega arith), λ e. omega (arith, e))
 ends_value false r = (inr (omega arith), λ e. omega (arith, e))
 
+-- a separator may stand behind each value
 ends_behind : (v : Value) (b : Bool) (r : List ℕ) → EndsBehind v (separator b ∷ r)
 ends_behind Null b r = tt
 ends_behind (Int n) b r = (ends_value b r).0
 ends_behind (Text text) b r = (ends_value b r).1
 ends_behind (Blob bytes) b r = tt
 
+-- printable values with one more behind them are printable
 pub printable_more : (values : List Value) (v : Value) → ArePrintable values → IsPrintable v → ArePrintable (values ++ v ∷ [])
 printable_more [] v are is = (is, tt)
 printable_more (w ∷ values) v are is = (are.0, printable_more values v are.1 is)
 
+-- with one value more, there is one
 some_value : (values : List Value) (v : Value) → values ++ v ∷ [] ≢ []
 some_value [] v e = cc
 some_value (w ∷ values) v e = cc
 
+-- printable values with one more behind them are a row
 pub row_more : (values : List Value) (v : Value) → ArePrintable values → IsPrintable v → IsRow (values ++ v ∷ [])
 row_more values v are is = (some_value values v, printable_more values v are is)
 
@@ -58,16 +63,19 @@ row_last (w ∷ values) v =
     first [] = row_cons w v []
     first (u ∷ us) = row_cons w u (us ++ v ∷ [])
 
+-- one value more, with its bar
 before_bars_more : (values : List Value) (v : Value) → before_bars (values ++ v ∷ []) ≡ before_bars values ++ (value_text v ++ 124 ∷ [])
 before_bars_more values v =
     flat_map-append (λ w. value_text w ++ 124 ∷ []) values (v ∷ []) ∙ ap (λ (l : List ℕ). before_bars values ++ l) (append-nil (value_text v ++ 124 ∷ []))
 
+-- with one value more and the line's end, the bytes begin with the whole row
 pub written_last : (bytes rest behind left : List ℕ) (values : List Value) (v : Value) → bytes ≡ before_bars values ++ rest → rest ≡ value_text v ++ behind → behind ≡ 10 ∷ left
     → bytes ≡ row_end (values ++ v ∷ []) ++ left
 written_last bytes rest behind left values v all there end =
     all ∙ ap (λ (l : List ℕ). before_bars values ++ l) (there ∙ ap (λ (l : List ℕ). value_text v ++ l) end ∙ sym (append_assoc (value_text v) (10 ∷ []) left))
     ∙ sym (append_assoc (before_bars values) (value_text v ++ 10 ∷ []) left) ∙ ap (λ (l : List ℕ). l ++ left) (sym (row_last values v))
 
+-- with one value more and a bar, the bytes begin with these values and their bars
 pub written_more : (bytes rest behind left : List ℕ) (values : List Value) (v : Value) → bytes ≡ before_bars values ++ rest → rest ≡ value_text v ++ behind → behind ≡ 124 ∷ left
     → bytes ≡ before_bars (values ++ v ∷ []) ++ left
 written_more bytes rest behind left values v all there end =
@@ -76,6 +84,7 @@ written_more bytes rest behind left values v all there end =
 
 -- ---- what goes on with the values so far
 
+-- the row goes on behind the values so far with others, whose text and what is behind it are y
 abbrev Behind : List Value → List Value → List ℕ → List ℕ → Type 0
 Behind values w behind y = (u : List Value) × (w ≡ values ++ u) × IsRow u × (row_end u ++ behind ≡ y)
 
@@ -83,15 +92,18 @@ Behind values w behind y = (u : List Value) × (w ≡ values ++ u) × IsRow u ×
 abbrev FirstOf : List Value → List ℕ → Type 0
 FirstOf w behind = (v : Value) × (b : Bool) × (more : List ℕ) × IsPrintable v × (row_end w ++ behind ≡ value_text v ++ separator b ∷ more)
 
+-- each row has a first value and its separator
 first_of : (w : List Value) (behind : List ℕ) → IsRow w → FirstOf w behind
 first_of [] behind is = absurd (is.0 refl)
 first_of (v ∷ []) behind is = (v, true, behind, is.1.0, append_assoc (value_text v) (10 ∷ []) behind)
 first_of (v ∷ w ∷ values) behind is =
     (v, false, row_end (w ∷ values) ++ behind, is.1.0, ap (λ (l : List ℕ). l ++ behind) (row_cons v w values) ∙ append_assoc (value_text v) (124 ∷ row_end (w ∷ values)) behind)
 
+-- values with bars behind them, by the first
 before_bars_cons : (x : Value) (values : List Value) (y : List ℕ) → before_bars (x ∷ values) ++ y ≡ value_text x ++ 124 ∷ (before_bars values ++ y)
 before_bars_cons x values y = append_assoc (value_text x ++ 124 ∷ []) (before_bars values) y ∙ append_assoc (value_text x) (124 ∷ []) (before_bars values ++ y)
 
+-- a row whose text begins with these values and their bars begins with these values
 pub rows_behind : (values w : List Value) (behind y : List ℕ) → ArePrintable values → IsRow w → row_end w ++ behind ≡ before_bars values ++ y → Behind values w behind y
 rows_behind [] w behind y are is e = (w, refl, is, e)
 rows_behind (x ∷ values) [] behind y are is e = absurd (is.0 refl)
@@ -109,9 +121,11 @@ rows_behind (x ∷ values) (v ∷ w ∷ ws) behind y are is e =
 
 -- ---- stops
 
+-- a stop in a row
 abbrev Stuck : List ℕ → List ℕ → Type 0
 Stuck bytes rest = IsStuck Anything IsRow row_end bytes rest
 
+-- a stop in a value is a stop in the row
 pub stuck_in_value : (values : List Value) (bytes rest stop : List ℕ) → ArePrintable values → bytes ≡ before_bars values ++ rest → IsStuck EndsValue IsPrintable value_text rest stop → Stuck bytes stop
 stuck_in_value values bytes rest stop are all s = record {
   before = before_bars values ++ s.before;
@@ -127,19 +141,23 @@ stuck_in_value values bytes rest stop are all s = record {
       s.none f.0 (separator f.1 ∷ f.2) other f.3 (ends_value f.1 f.2) same (sym f.4 ∙ b.3);
 }
 
+-- where no separator stands, none stands in what begins with the same byte
 no_separator_there : (rest other : List ℕ) → SameFirst rest other → NoSeparator rest → NoSeparator other
 no_separator_there = same_ends NoSeparator (λ b rest other none. none)
 
+-- whether bytes may follow a value is told by the first of them
 ends_told : (v : Value) → IsToldByFirst (EndsBehind v)
 ends_told Null b rest other ends = tt
 ends_told (Int n) b rest other ends = ends
 ends_told (Text text) b rest other ends = ends
 ends_told (Blob bytes) b rest other ends = tt
 
+-- bytes without a separator in front do not begin with one
 separates : (b : Bool) (more other : List ℕ) → NoSeparator other → separator b ∷ more ≡ other → ⊥
 separates true more other none e = (subst NoSeparator (sym e) none).0 refl
 separates false more other none e = (subst NoSeparator (sym e) none).1 refl
 
+-- a stop behind a value, where no separator stands
 pub stuck_at_separator : (values : List Value) (v : Value) (bytes rest stop : List ℕ) → ArePrintable values → IsPrintable v → bytes ≡ before_bars values ++ rest → rest ≡ value_text v ++ stop
     → EndsBehind v stop → NoSeparator stop → Stuck bytes stop
 stuck_at_separator values v bytes rest stop are is all there ends none = record {

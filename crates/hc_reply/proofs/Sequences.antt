@@ -9,12 +9,15 @@ use Rattle.hc_reply.proofs.Following.{IsPrefixFree, same_behind}
 -- `follows`: where the second part stands, the first may end. `heads`: what may follow the first is told by its first byte.
 module _ {V W : Type 0} (Ends : List ℕ → Type 0) (Is : V → Type 0) (text : V → List ℕ) (Is2 : W → Type 0) (text2 : W → List ℕ)
     (follows : (w : W) (behind : List ℕ) → Is2 w → Ends (text2 w ++ behind)) where
+  -- the two parts
   abbrev Both : V × W → Type 0
   Both p = Is p.0 × Is2 p.1
 
+  -- their text
   abbrev both : V × W → List ℕ
   both p = text p.0 ++ text2 p.1
 
+  -- a stop in the first part is a stop in the two
   pub stuck_first : (bytes rest : List ℕ) (w : W) → Is2 w → IsStuck Ends Is text bytes rest → IsStuck Anything Both both bytes rest
   stuck_first bytes rest w is2 s = record {
     before = s.before;
@@ -27,6 +30,7 @@ module _ {V W : Type 0} (Ends : List ℕ → Type 0) (Is : V → Type 0) (text :
         s.none p.0 (text2 p.1 ++ behind) other is.0 (follows p.1 behind is.1) same (sym (append_assoc (text p.0) (text2 p.1) behind) ∙ e);
   }
 
+  -- a stop in the second part behind a first one is a stop in the two
   pub stuck_second : (free : IsPrefixFree Ends Is text) (heads : (r s : List ℕ) → SameFirst r s → Ends r → Ends s)
       → (bytes mid rest : List ℕ) (v : V) → Is v → bytes ≡ text v ++ mid → Ends mid → IsStuck Anything Is2 text2 mid rest → IsStuck Anything Both both bytes rest
   stuck_second free heads bytes mid rest v is all ends s = record {
@@ -43,6 +47,7 @@ module _ {V W : Type 0} (Ends : List ℕ → Type 0) (Is : V → Type 0) (text :
         s.none p.1 behind other is2.1 tt same split.1;
   }
 
+  -- where no first part begins another, and no second one, no two do
   pub both_free : IsPrefixFree Ends Is text → IsPrefixFree Anything Is2 text2 → IsPrefixFree Anything Both both
   both_free free free2 p q r s isp isq any more e =
       let first = free p.0 q.0 (text2 p.1 ++ r) (text2 q.1 ++ s) isp.0 isq.0 (follows p.1 r isp.1) (follows q.1 s isq.1)
@@ -50,15 +55,18 @@ module _ {V W : Type 0} (Ends : List ℕ → Type 0) (Is : V → Type 0) (text :
       let second = free2 p.1 q.1 r s isp.1 isq.1 tt tt first.1 in
       ((λ i. (first.0 i, second.0 i)), second.1)
 
+  -- a part and another behind it are the two at the front of the bytes
   pub both_read : (bytes mid rest : List ℕ) (v : V) (w : W) → bytes ≡ text v ++ mid → mid ≡ text2 w ++ rest → bytes ≡ (text v ++ text2 w) ++ rest
   both_read bytes mid rest v w all behind = all ∙ ap (λ (l : List ℕ). text v ++ l) behind ∙ sym (append_assoc (text v) (text2 w) rest)
 
 -- a part and fixed words behind it
 module _ {V : Type 0} (Ends : List ℕ → Type 0) (Is : V → Type 0) (text : V → List ℕ) (word : List ℕ)
     (follows : (behind : List ℕ) → Ends (word ++ behind)) where
+  -- its text
   abbrev ended : V → List ℕ
   ended v = text v ++ word
 
+  -- a stop in the part and the words as two parts is a stop in the part with its words
   without_unit : (bytes rest : List ℕ) → IsStuck Anything (λ (p : V × Unit {0}). Is p.0 × IsWord p.1) (λ (p : V × Unit {0}). text p.0 ++ the_word word p.1) bytes rest
       → IsStuck Anything Is ended bytes rest
   without_unit bytes rest s = record {
@@ -71,14 +79,17 @@ module _ {V : Type 0} (Ends : List ℕ → Type 0) (Is : V → Type 0) (text : V
     none = λ v behind other is any same e. s.none (v, tt) behind other (is, tt) any same e;
   }
 
+  -- a stop in the part is a stop in the part with its words
   pub stuck_before_word : (bytes rest : List ℕ) → IsStuck Ends Is text bytes rest → IsStuck Anything Is ended bytes rest
   stuck_before_word bytes rest s = without_unit bytes rest (stuck_first Ends Is text IsWord (the_word word) (λ w behind is. follows behind) bytes rest tt tt s)
 
+  -- a stop in the words behind a part is one too
   pub stuck_in_word : IsPrefixFree Ends Is text → ((r s : List ℕ) → SameFirst r s → Ends r → Ends s) → (bytes mid rest : List ℕ) (v : V) → Is v → bytes ≡ text v ++ mid → Ends mid
       → IsStuck Anything IsWord (the_word word) mid rest → IsStuck Anything Is ended bytes rest
   stuck_in_word free heads bytes mid rest v is all ends s =
       without_unit bytes rest (stuck_second Ends Is text IsWord (the_word word) (λ w behind is. follows behind) free heads bytes mid rest v is all ends s)
 
+  -- where no part begins another, none with its words does
   pub ended_free : IsPrefixFree Ends Is text → IsPrefixFree Anything Is ended
   ended_free free v w r s is is2 any more e =
       let split = free v w (word ++ r) (word ++ s) is is2 (follows r) (follows s) (sym (append_assoc (text v) word r) ∙ e ∙ append_assoc (text w) word s) in
@@ -131,6 +142,7 @@ stuck_told E Is text Is2 text2 to back is from same again bytes rest s = record 
   none = λ w behind other fits ends first e. s.none (back w) behind other (from w fits) ends first (ap (λ (l : List ℕ). l ++ behind) (again w) ∙ e);
 }
 
+-- where no text of a part begins another, none does with its values told in another way
 pub free_told : {V W : Type 0} (E : List ℕ → Type 0) (Is : V → Type 0) (text : V → List ℕ) (Is2 : W → Type 0) (text2 : W → List ℕ) (to : V → W) (back : W → V)
     → ((w : W) → Is2 w → Is (back w)) → ((w : W) → text (back w) ≡ text2 w) → ((w : W) → to (back w) ≡ w) → IsPrefixFree E Is text → IsPrefixFree E Is2 text2
 free_told E Is text Is2 text2 to back from again whole free v w r s p q er es e =

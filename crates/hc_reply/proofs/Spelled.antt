@@ -20,7 +20,6 @@ use Rattle.hc_reply.specs.Reading.{spelling}
 use Rattle.hc_reply.specs.Items.{item_as, item_text, item_of}
 
 -- the line of an item that was made of a line
-
 pub spelled_again : (opening : Opening) (behind : Behind opening) → item_as spelling (item_of opening behind) ≡ (opening, behind)
 spelled_again opens.Row b = refl
 spelled_again opens.Ok b = refl
@@ -65,6 +64,7 @@ spelled_again opens.NoItem b = refl
 spelled_again opens.TooBig b = refl
 spelled_again opens.Busy b = refl
 
+-- the text of an item that was made of a line is the line's
 pub text_again : (opening : Opening) (behind : Behind opening) → item_text (item_of opening behind) ≡ line_text opening behind
 text_again opens.Row b = refl
 text_again opens.Ok b = refl

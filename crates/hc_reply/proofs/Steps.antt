@@ -23,16 +23,19 @@ use Rattle.hc_reply.specs.Progress.{start, reply_of, closed, open_rows, ended, w
 use Rattle.hc_reply.proofs.ReadSoFar.{MayFollow, IsOpenLast, conns, IsOpenConn, IsProgress, conn_text_if, text_of}
 use Rattle.hc_reply.proofs.ReplyLines.{fits_of, last_stands, ending_stands}
 
+-- the text of parts with one more behind them
 flat_last : {X : Type 0} (f : X → List ℕ) (xs : List X) (x : X) → flat_map f (xs ++ x ∷ []) ≡ flat_map f xs ++ f x
 flat_last f xs x = flat_map-append f xs (x ∷ []) ∙ ap (λ (l : List ℕ). flat_map f xs ++ l) (append-nil (f x))
 
 -- ---- texts
 
+-- one row more adds its text
 with_row : (p : Progress) (row : Row) → text_of (step p (item.Row row)) ≡ text_of p ++ row_text row
 with_row p row =
     let front = output_text p.done ++ conn_text_if p.conn ++ flat_map reply_text (replies_of p) in
     ap (λ (l : List ℕ). front ++ l) (flat_last row_text (rows_of p) row) ∙ sym (append_assoc front (flat_map row_text (rows_of p)) (row_text row))
 
+-- one last line more adds its text
 with_last : (p : Progress) (line : Line) → text_of (step p (item.Last line)) ≡ text_of p ++ last_text line
 with_last p line =
     let front = output_text p.done ++ conn_text_if p.conn in
@@ -43,6 +46,7 @@ with_last p line =
     ∙ ap (λ (l : List ℕ). front ++ (replies ++ l)) (append-nil (rows ++ last_text line))
     ∙ sym (append_assoc front replies (rows ++ last_text line)) ∙ sym (append_assoc (front ++ replies) rows (last_text line))
 
+-- an ending adds its text
 with_ending : (front : List ℕ) (replies : List Reply) (rows : List Row) (last : Option Line) (line : Ending) → is_some last ≡ true
     → (front ++ flat_map reply_text (ended replies rows last line)) ++ flat_map row_text (open_rows rows last) ≡ ((front ++ flat_map reply_text (closed replies rows last)) ++ flat_map row_text (open_rows rows last)) ++ ending_text line
 with_ending front replies rows None line some = absurd (let bad = some in cc)
@@ -57,6 +61,7 @@ with_ending front replies rows (Some last) line some =
     (sym (append-nil (front ++ flat_map reply_text (replies ++ reply_of rows last None ∷ []))
     ∙ ap (λ (l : List ℕ). front ++ l) (flat_last reply_text replies (reply_of rows last None) ∙ ap (λ (l : List ℕ). before ++ l) (append-nil body))))
 
+-- where an open transcript may close, it has replies, and no row behind them
 pub no_row_left : (replies : List Reply) (rows : List Row) → and_some (is_empty rows) replies ≡ true → (replies ≢ []) × (rows ≡ [])
 no_row_left [] rows h = absurd (let bad = h in cc)
 no_row_left (r ∷ replies) [] h = ((λ bad. cc), refl)
@@ -78,6 +83,7 @@ finished_text p is whole = by p.conn is.opened whole
         ∙ sym (append_assoc all conn replies) ∙ sym (append-nil ((all ++ conn) ++ replies))
         ∙ ap (λ (rows : List Row). ((all ++ conn) ++ replies) ++ flat_map row_text rows) (sym (no_row_left (replies_of p) (rows_of p) whole).1)
 
+-- one line more adds its text to what was read
 pub step_text : (p : Progress) (line : Item) → IsProgress p → MayFollow p line → text_of (step p line) ≡ text_of p ++ item_text line
 step_text p (item.Conn n) is may =
     append-nil _ ∙ append-nil _ ∙ ap (λ (l : List ℕ). l ++ line_text opens.Conn n) (finished_text p is (second_so _ _ may.0))
@@ -88,10 +94,12 @@ step_text p (item.Ending line) is may =
 
 -- ---- what holds
 
+-- what holds of each element, and of one behind them, holds of each
 all_last : {X : Type 0} (P : X → Type 0) (xs : List X) (x : X) → AllByRecursion P xs → P x → AllByRecursion P (xs ++ x ∷ [])
 all_last P [] x all is = (is, tt)
 all_last P (y ∷ xs) x all is = (all.0, all_last P xs x all.1 is)
 
+-- rising numbers with a greater one behind them rise
 pub rises_more : (xs : List ℕ) (c n : ℕ) → IsStrictlyIncreasing (xs ++ c ∷ []) → c < n → IsStrictlyIncreasing ((xs ++ c ∷ []) ++ n ∷ [])
 rises_more xs c n rises less k short = by (cases_lt (k + 1) (length (xs ++ c ∷ [])))
   where
@@ -110,17 +118,21 @@ rises_more xs c n rises less k short = by (cases_lt (k + 1) (length (xs ++ c ∷
         ap (λ (i : ℕ). slice_index_or ((xs ++ c ∷ []) ++ n ∷ []) i 0) (sym next) ∙ get_or-append_seam (xs ++ c ∷ []) n [] 0 in
         omega (arith, low, high, less)
 
+-- replies with the open one closed are those of an output
 closed_are : (replies : List Reply) (rows : List Row) (last : Option Line) → AllByRecursion IsReply replies → AllByRecursion IsRow rows → IsOpenLast last → AllByRecursion IsReply (closed replies rows last)
 closed_are replies rows None all are is = all
 closed_are replies rows (Some line) all are is = all_last IsReply replies (reply_of rows line None) all (are, is, tt)
 
+-- the rows of the open reply are those of an output
 open_are : (rows : List Row) (last : Option Line) → AllByRecursion IsRow rows → AllByRecursion IsRow (open_rows rows last)
 open_are rows None are = are
 open_are rows (Some line) are = tt
 
+-- the replies that were read are those of an output
 pub replies_are : (p : Progress) → IsProgress p → AllByRecursion IsReply (replies_of p)
 replies_are p is = closed_are p.replies p.rows p.last is.replies is.rows is.last
 
+-- a connection stays open, while the transcripts before it are the same
 still_open : (p q : Progress) (k : Option ℕ) → is_some k ≡ true → q.done ≡ p.done → IsOpenConn p k → IsOpenConn q k
 still_open p q None some same opened = absurd (let bad = some in cc)
 still_open p q (Some c) some same opened = (opened.0, subst (λ (d : List Transcript). IsStrictlyIncreasing (conns d ++ c ∷ [])) (sym same) opened.1)
@@ -130,11 +142,13 @@ opened_by_last : (p : Progress) (k : Option ℕ) → is_some p.last ≡ true →
 opened_by_last p None some opened = absurd (let bad : false ≡ true = subst (λ (q : Progress). is_some q.last ≡ true) opened some in cc)
 opened_by_last p (Some c) some opened = refl
 
+-- replies with the open one ended are those of an output
 ended_are : (replies : List Reply) (rows : List Row) (last : Option Line) (line : Ending) → AllByRecursion IsReply replies → AllByRecursion IsRow rows → IsOpenLast last → IsEndingIf (Some line)
     → AllByRecursion IsReply (ended replies rows last line)
 ended_are replies rows None line all are is end = all
 ended_are replies rows (Some last) line all are is end = all_last IsReply replies (reply_of rows last (Some line)) all (are, is, end)
 
+-- an ending that may follow is one of an output
 ending_is : (low : ℕ) (line : Ending) → FitsFrom low (ending_as spelling line).0 (ending_as spelling line).1 → IsEndingIf (Some line)
 ending_is low line fits = fits_of low (ending_as spelling line).0 (ending_as spelling line).1 fits
 
@@ -147,9 +161,11 @@ finished_are p is whole = by p.conn is.opened whole
     by (Some c) opened whole =
         all_last IsTranscript p.done (record { conn = c; replies = replies_of p }) is.transcripts (opened.0, (no_row_left (replies_of p) (rows_of p) whole).0, replies_are p is)
 
+-- the numbers of transcripts with one more behind them
 conns_last : (done : List Transcript) (c : ℕ) (replies : List Reply) → conns (done ++ (record { conn = c; replies = replies }) ∷ []) ≡ conns done ++ c ∷ []
 conns_last done c replies = map-append (λ (t : Transcript). t.conn) done ((record { conn = c; replies = replies }) ∷ [])
 
+-- a connection of no less than the least number stands above those before it
 conn_opened : (p : Progress) (n : ℕ) (k : Option ℕ) → IsOpenConn p k → next_low k ≤ n → IsStrictlyIncreasing (conns (with_open p.done k (replies_of p)) ++ n ∷ [])
 conn_opened p n None opened low = subst (λ (q : Progress). IsStrictlyIncreasing (conns q.done ++ n ∷ [])) (sym opened) (λ k short. omega (arith, short))
 conn_opened p n (Some c) opened low =
@@ -188,6 +204,7 @@ step_is p (item.Ending line) is may =
       last = tt;
     }
 
+-- before the first line, what was read is right
 pub start_is : IsProgress start
 start_is = record {
   opened = refl;

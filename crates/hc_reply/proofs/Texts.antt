@@ -18,12 +18,15 @@ use Rattle.hc_reply.proofs.Following.{IsPrefixFree, no_quote_there, same_byte}
 abbrev pub twice : ℕ → List ℕ
 twice b = if b == 39 then b ∷ b ∷ [] else b ∷ []
 
+-- a quote stands twice within quotes
 twice_quote : (b : ℕ) → b ≡ 39 → twice b ≡ 39 ∷ 39 ∷ []
 twice_quote b is = subst (λ (k : ℕ). twice k ≡ 39 ∷ 39 ∷ []) (sym is) refl
 
+-- any other byte stands once
 twice_other : (b : ℕ) → (b ≡ 39 → ⊥) → twice b ≡ b ∷ []
 twice_other b other = ap (λ k. if k then b ∷ b ∷ [] else b ∷ []) (ne_eqb b 39 other)
 
+-- one byte more within quotes
 pub doubled_more : (out : List ℕ) (b : ℕ) → doubled 39 (out ++ b ∷ []) ≡ doubled 39 out ++ twice b
 doubled_more out b = flat_map-append twice out (b ∷ []) ∙ ap (λ (l : List ℕ). doubled 39 out ++ l) (append-nil (twice b))
 
@@ -53,6 +56,7 @@ twice_free x o r s e = by (cases_eq x 39) (cases_eq o 39)
         let rest : r ≡ s = cc in
         (first, rest)
 
+-- the text goes on behind `out` with others: y is those within quotes, the quote, and what is behind
 abbrev Behind : List ℕ → List ℕ → List ℕ → List ℕ → Type 0
 Behind out v behind y = (d : List ℕ) × (v ≡ out ++ d) × (doubled 39 d ++ 39 ∷ behind ≡ y)
 
@@ -96,9 +100,11 @@ begins_behind P (x ∷ d) behind b o e ends goes = by (cases_eq x 39)
         let first : x ≡ b = cc in
         goes d (ap (λ (k : ℕ). k ∷ d) first)
 
+-- a text in quotes and what is behind it, by its quotes
 quoted_behind : (v behind : List ℕ) → quoted v ++ behind ≡ 39 ∷ (doubled 39 v ++ 39 ∷ behind)
 quoted_behind v behind = ap (λ (l : List ℕ). 39 ∷ l) (append_assoc (doubled 39 v) (39 ∷ []) behind)
 
+-- no text in quotes begins another, where no quote follows
 pub text_free : IsPrefixFree NoQuote IsUtf8 quoted
 text_free v w r s isv isw nr ns e =
     let inner : doubled 39 v ++ 39 ∷ r ≡ doubled 39 w ++ 39 ∷ s = let h : 39 ∷ (doubled 39 v ++ 39 ∷ r) ≡ 39 ∷ (doubled 39 w ++ 39 ∷ s) = sym (quoted_behind v r) ∙ e ∙ quoted_behind w s in cc in
@@ -108,9 +114,11 @@ text_free v w r s isv isw nr ns e =
     let rest : r ≡ s = (let h : 39 ∷ r ≡ 39 ∷ s = ap (λ (d : List ℕ). doubled 39 d ++ 39 ∷ r) (sym none) ∙ more.2 in cc) in
     (more.1 ∙ ap (λ (d : List ℕ). w ++ d) none ∙ append-nil w, rest)
 
+-- a stop in a text in quotes
 abbrev Stuck : List ℕ → List ℕ → Type 0
 Stuck bytes rest = IsStuck NoQuote IsUtf8 quoted bytes rest
 
+-- a stop where no quote stands
 pub stuck_without_quote : (bytes : List ℕ) → NoQuote bytes → Stuck bytes bytes
 stuck_without_quote bytes none = record {
   before = [];
@@ -153,6 +161,7 @@ stuck_there out bytes rest e alive goes all none =
       none = λ v behind other is ends same h. none v behind other is same (texts_behind out v behind other ends h);
     }
 
+-- a stop at the end of the bytes, within the quotes
 pub stuck_at_end : (out bytes rest : List ℕ) (e : Expected) → IsOpen e → GoesOn Character out e → bytes ≡ (39 ∷ doubled 39 out) ++ rest → rest ≡ [] → Stuck bytes rest
 stuck_at_end out bytes rest e alive goes all nothing =
     stuck_there out bytes rest e alive goes all (λ v behind other is same more.
@@ -174,6 +183,7 @@ stuck_at_byte out bytes rest after b e alive goes all first refused closed =
 
 -- ---- one byte more, and the end
 
+-- what makes a text behind one byte more is told by what is expected next
 pub goes_further : (out : List ℕ) (e n : Expected) (b : ℕ) → GoesOn Character out e → IsNext e b n → GoesOn Character (out ++ b ∷ []) n
 goes_further out e n b goes next x =
     let same : (out ++ b ∷ []) ++ x ≡ out ++ b ∷ x = append_assoc out (b ∷ []) x in (
@@ -181,6 +191,7 @@ goes_further out e n b goes next x =
       λ h. (next.1 x).1 ((goes (b ∷ x)).1 (subst IsUtf8 same h)),
     )
 
+-- with one byte more, or a quote twice, the text that was read is longer by it
 pub written_further : (out bytes rest after left : List ℕ) (b : ℕ) → bytes ≡ (39 ∷ doubled 39 out) ++ rest → rest ≡ b ∷ after
     → ((b ≡ 39) × (after ≡ 39 ∷ left)) ⊎ ((b ≢ 39) × (after ≡ left)) → bytes ≡ (39 ∷ doubled 39 (out ++ b ∷ [])) ++ left
 written_further out bytes rest after left b all first which = all ∙ ap (λ (l : List ℕ). (39 ∷ doubled 39 out) ++ l) (by which) ∙ more
@@ -192,9 +203,11 @@ written_further out bytes rest after left b all first which = all ∙ ap (λ (l 
     more : (39 ∷ doubled 39 out) ++ (twice b ++ left) ≡ (39 ∷ doubled 39 (out ++ b ∷ [])) ++ left
     more = ap (λ (l : List ℕ). 39 ∷ l) (sym (append_assoc (doubled 39 out) (twice b) left) ∙ ap (λ (l : List ℕ). l ++ left) (sym (doubled_more out b)))
 
+-- where the last quote stands, the bytes begin with the whole text in quotes
 pub ended_here : (out bytes rest after : List ℕ) (b : ℕ) → bytes ≡ (39 ∷ doubled 39 out) ++ rest → rest ≡ b ∷ after → b ≡ 39 → bytes ≡ quoted out ++ after
 ended_here out bytes rest after b all first quote =
     all ∙ ap (λ (l : List ℕ). (39 ∷ doubled 39 out) ++ l) (first ∙ ap (λ (k : ℕ). k ∷ after) quote) ∙ sym (quoted_behind out after)
 
+-- what was read is a text, where nothing has to come
 pub text_so_far : (out : List ℕ) (e : Expected) → GoesOn Character out e → Completes e [] → IsUtf8 out
 text_so_far out e goes done = subst IsUtf8 (append-nil out) ((goes []).0 done)

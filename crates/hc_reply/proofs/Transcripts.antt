@@ -19,16 +19,20 @@ use Rattle.hc_reply.proofs.ReadSoFar.{Leads, conns}
 use Rattle.hc_reply.proofs.ReplyLines.{last_stands, last_from, ending_stands, ending_from}
 use Rattle.hc_reply.proofs.Leading.{leads_on}
 
+-- the line of an ending, where there is one
 abbrev ending_lines : Option Ending → List Item
 ending_lines None = []
 ending_lines (Some line) = item.Ending line ∷ []
 
+-- the lines of a reply
 abbrev reply_lines : Reply → List Item
 reply_lines reply = map item.Row reply.rows ++ item.Last reply.last ∷ ending_lines reply.ending
 
+-- the lines of a transcript
 abbrev transcript_lines : Transcript → List Item
 transcript_lines transcript = item.Conn transcript.conn ∷ flat_map reply_lines transcript.replies
 
+-- the lines of transcripts
 abbrev pub all_lines : List Transcript → List Item
 all_lines transcripts = flat_map transcript_lines transcripts
 
@@ -40,6 +44,7 @@ record At (done : List Transcript) (n : ℕ) (replies : List Reply) (rows : List
   left : rows_of p ≡ rows
 
 module _ (done : List Transcript) (n : ℕ) where
+  -- rows lead on to where they stand behind those before
   rows_lead : (rows : List Row) (replies : List Reply) (front : List Row) (p : Progress) → At done n replies front p → AllByRecursion IsRow rows
       → (q : Progress) × Leads p (map item.Row rows) q × At done n replies (front ++ rows) q
   rows_lead [] replies front p at are = (p, refl, record { before = at.before; conn = at.conn; closed = at.closed; left = at.left ∙ sym (append-nil front) })
@@ -49,6 +54,7 @@ module _ (done : List Transcript) (n : ℕ) where
       let more = rows_lead rows replies (front ++ row ∷ []) (step p (item.Row row)) next are.1 in
       (more.0, ((ap is_some at.conn, are.0), more.1), subst (λ (l : List Row). At done n replies l more.0) (append_assoc front (row ∷ []) rows) more.2)
 
+  -- a last line and its ending lead on to where the reply is closed
   end_leads : (ending : Option Ending) (replies : List Reply) (rows : List Row) (line : Line) (p : Progress) → At done n replies rows p → IsLast line → IsEndingIf ending
       → (q : Progress) × Leads p (item.Last line ∷ ending_lines ending) q × At done n (replies ++ reply_of rows line ending ∷ []) [] q
   end_leads None replies rows line p at is end = (
@@ -63,6 +69,7 @@ module _ (done : List Transcript) (n : ℕ) where
         record { before = at.before; conn = at.conn; closed = λ i. (at.closed i) ++ reply_of (at.left i) line (Some ending) ∷ []; left = refl },
       )
 
+  -- the lines of replies lead on to where these stand behind those before
   replies_lead : (rs : List Reply) (replies : List Reply) (p : Progress) → At done n replies [] p → AllByRecursion IsReply rs
       → (q : Progress) × Leads p (flat_map reply_lines rs) q × At done n (replies ++ rs) [] q
   replies_lead [] replies p at are = (p, refl, record { before = at.before; conn = at.conn; closed = at.closed ∙ sym (append-nil replies); left = at.left })
@@ -81,6 +88,7 @@ abbrev Rises : ℕ → List Transcript → Type 0
 Rises low [] = Unit {0}
 Rises low (t ∷ ts) = (low ≤ t.conn) × Rises (t.conn + 1) ts
 
+-- numbers that rise strictly rise from the first on
 rises : (low : ℕ) (t : Transcript) (ts : List Transcript) → low ≤ t.conn → IsStrictlyIncreasing (conns (t ∷ ts)) → Rises low (t ∷ ts)
 rises low t [] le up = (le, tt)
 rises low t (u ∷ ts) le up =
@@ -91,10 +99,12 @@ rises low t (u ∷ ts) le up =
           subst (λ (i : ℕ). slice_index (conns (u ∷ ts)) k < slice_index (conns (t ∷ u ∷ ts)) i) next (up (suc k) (omega (arith, short)))),
     )
 
+-- a transcript that has replies may close
 some_there : (replies : List Reply) → replies ≢ [] → and_some true replies ≡ true
 some_there [] some = absurd (some refl)
 some_there (r ∷ replies) some = refl
 
+-- where nothing is left open, the lines of further transcripts lead on to where these stand behind
 all_lead : (ts : List Transcript) (p : Progress) → is_whole p ≡ true → Rises (low_of p) ts → AllByRecursion IsTranscript ts
     → (q : Progress) × Leads p (all_lines ts) q × (is_whole q ≡ true) × (finish q ≡ finish p ++ ts)
 all_lead [] p whole up are = (p, refl, whole, sym (append-nil (finish p)))

@@ -10,19 +10,24 @@ use Rattle.hc_reply.specs.Openings.{MayStand, IsAmong, IsMissed, IsBegun}
 use Rattle.hc_reply.specs.Stops.{SameFirst, Anything, Differ, IsCommon, IsStuck}
 use Rattle.hc_reply.proofs.Words.{differ_on}
 
+-- each opening that may stand here is among those left, or was missed
 abbrev pub Tried : Turn → List Opening → ℕ → List ℕ → Type 0
 Tried turn left most bytes = (one : Opening) → MayStand turn one → IsAmong left one ⊎ IsMissed most bytes (opening_words one)
 
+-- the empty front begins some opening that may stand here
 pub begun_at_start : (turn : Turn) (bytes : List ℕ) → (turn.conn ≡ true) ⊎ (turn.reply ≡ true) → IsBegun turn 0 bytes
 begun_at_start turn bytes (inl conn) = ([], bytes, Conn, opening_words Conn, refl, refl, conn, refl)
 begun_at_start turn bytes (inr reply) = ([], bytes, Ok, opening_words Ok, refl, refl, reply, refl)
 
+-- the bytes in common with an opening that may stand here begin it
 pub begun_by : (turn : Turn) (one : Opening) (n : ℕ) (bytes : List ℕ) → MayStand turn one → IsCommon (opening_words one) bytes n → IsBegun turn n bytes
 begun_by turn one n bytes may c = (c.front, c.rest, one, c.left, c.bytes_are, c.long, may, c.word_is)
 
+-- an opening that is not all in common with the bytes is missed
 pub missed_by : (one : Opening) (n most : ℕ) (bytes : List ℕ) → IsCommon (opening_words one) bytes n → n ≢ length (opening_words one) → n ≤ most → IsMissed most bytes (opening_words one)
 missed_by one n most bytes c short le = (n, le, c, short)
 
+-- with one opening more that was missed, the others are left
 pub tried_more : (turn : Turn) (left others : List Opening) (one : Opening) (most now : ℕ) (bytes : List ℕ) → left ≡ one ∷ others → most ≤ now → (MayStand turn one → IsMissed now bytes (opening_words one))
     → Tried turn left most bytes → Tried turn others now bytes
 tried_more turn left others one most now bytes is le missed tried other may = by (tried other may)
@@ -50,6 +55,7 @@ apart (x ∷ f) l r (b ∷ front) rest behind other same le e differ some first 
     let more : (f ++ l) ++ behind ≡ front ++ other = cc in
     apart f l r front rest behind other tail (omega (arith, le)) more differ some first
 
+-- a stop behind the most bytes in common, where no opening is left
 pub stuck_there : (turn : Turn) (most : ℕ) (bytes : List ℕ) → Tried turn [] most bytes → IsBegun turn most bytes
     → IsStuck Anything (MayStand turn) opening_words bytes (take (length bytes - most) (drop most bytes))
 stuck_there turn most bytes tried b = record {
@@ -75,6 +81,7 @@ stuck_there turn most bytes tried b = record {
         (ap (λ (l : List ℕ). l ++ behind) (sym c.word_is) ∙ e) c.differ
         (λ none. m.3 (omega (arith, none, c.long, ap length c.word_is, length-append c.front c.left))) same
 
+-- fewer than one opening are none
 pub none_left : (l : List Opening) → length l < 1 → l ≡ []
 none_left [] short = refl
 none_left (x ∷ l) short = absurd (omega (arith, short))

@@ -21,19 +21,23 @@ HeadOf (Int n) b = (b ≡ 45) ⊎ ((48 ≤ b) × (b < 58))
 HeadOf (Text text) b = b ≡ 39
 HeadOf (Blob bytes) b = b ≡ 88
 
+-- an integer begins with a minus or a digit
 integer_head : (z : ℤ) (behind : List ℕ) (b : ℕ) (o : List ℕ) → FitsSigned w64 z → signed_decimal z ++ behind ≡ b ∷ o → (b ≡ 45) ⊎ ((48 ≤ b) × (b < 58))
 integer_head (pos n) behind b o fits e = inr (decimal_head n behind b o (omega (arith, fits)) e)
 integer_head (negsuc n) behind b o fits e = inl (let h : 45 ≡ b = cc in sym h)
 
+-- the first byte of a value tells its class
 head_of : (v : Value) (behind : List ℕ) (b : ℕ) (o : List ℕ) → IsPrintable v → value_text v ++ behind ≡ b ∷ o → HeadOf v b
 head_of Null behind b o fits e = let h : 78 ≡ b = cc in sym h
 head_of (Int n) behind b o fits e = integer_head n behind b o fits.0 e
 head_of (Text text) behind b o fits e = let h : 39 ≡ b = cc in sym h
 head_of (Blob bytes) behind b o fits e = let h : 88 ≡ b = cc in sym h
 
+-- a stop in a value
 abbrev Stuck : List ℕ → List ℕ → Type 0
 Stuck bytes rest = IsStuck EndsValue IsPrintable value_text bytes rest
 
+-- where an N comes first, a stop in the word is a stop in the value
 pub null_stuck : (bytes rest t : List ℕ) → bytes ≡ 78 ∷ t → IsStuck Anything IsWord (the_word (codes "NULL")) bytes rest → Stuck bytes rest
 null_stuck bytes rest t first s = record {
   before = s.before;
@@ -54,6 +58,7 @@ null_stuck bytes rest t first s = record {
     only (Text text) h behind other same e = omega (arith, h)
     only (Blob bytes) h behind other same e = omega (arith, h)
 
+-- where a quote comes first, a stop in the text is a stop in the value
 pub text_stuck : (bytes rest t : List ℕ) → bytes ≡ 39 ∷ t → IsStuck NoQuote IsUtf8 quoted bytes rest → Stuck bytes rest
 text_stuck bytes rest t first s = record {
   before = s.before;
@@ -74,6 +79,7 @@ text_stuck bytes rest t first s = record {
     only (Text text) fits h behind other ends same e = s.none text behind other fits.0 ends.1 same e
     only (Blob bytes) fits h behind other ends same e = omega (arith, h)
 
+-- where an X comes first, a stop in the blob is a stop in the value
 pub blob_stuck : (bytes rest t : List ℕ) → bytes ≡ 88 ∷ t → IsStuck Anything (IsBlob None) blob_text bytes rest → Stuck bytes rest
 blob_stuck bytes rest t first s = record {
   before = s.before;
@@ -99,10 +105,12 @@ abbrev pub MayBeInteger : List ℕ → Type 0
 MayBeInteger [] = Unit {0}
 MayBeInteger (b ∷ rest) = (b ≢ 78) × (b ≢ 39) × (b ≢ 88)
 
+-- what begins with no N, no quote and no X
 pub may_be_integer : (bytes : List ℕ) → NotFirst 78 bytes → NotFirst 39 bytes → NotFirst 88 bytes → MayBeInteger bytes
 may_be_integer [] n q x = tt
 may_be_integer (b ∷ rest) n q x = (n, q, x)
 
+-- where no other value begins so, a stop in the integer is a stop in the value
 pub integer_stuck : (bytes rest : List ℕ) → MayBeInteger bytes → IsStuck NoDigit (FitsSigned w64) signed_decimal bytes rest → Stuck bytes rest
 integer_stuck bytes rest may s = record {
   before = s.before;

@@ -21,12 +21,14 @@ SameAt (suc n) [] bytes = ⊥
 SameAt (suc n) (w ∷ word) [] = ⊥
 SameAt (suc n) (w ∷ word) (b ∷ bytes) = SameAt n word bytes
 
+-- where both go on at n, and the same by index, the bytes there are the same
 pub same_at : (n : ℕ) (word bytes : List ℕ) → n < length word → n < length bytes → slice_index_or word n 0 ≡ slice_index_or bytes n 0 → SameAt n word bytes
 same_at n [] bytes below within e = absurd (omega (arith, below))
 same_at n (w ∷ word) [] below within e = absurd (omega (arith, within))
 same_at zero (w ∷ word) (b ∷ bytes) below within e = e
 same_at (suc n) (w ∷ word) (b ∷ bytes) below within e = same_at n word bytes (omega (arith, below)) (omega (arith, within)) e
 
+-- the first n bytes and the one at n are the first n + 1
 pub one_more : (n : ℕ) (word bytes : List ℕ) → SameFront n word bytes → SameAt n word bytes → SameFront (suc n) word bytes
 one_more zero [] bytes front at = absurd at
 one_more zero (w ∷ word) [] front at = absurd at
@@ -35,6 +37,7 @@ one_more (suc n) [] bytes front at = absurd at
 one_more (suc n) (w ∷ word) [] front at = absurd at
 one_more (suc n) (w ∷ word) (b ∷ bytes) front at = (front.0, one_more n word bytes front.1 at)
 
+-- where one of both ends at n, or they differ there, they have the first n bytes in common and no more
 pub common_is : (n : ℕ) (word bytes : List ℕ) → SameFront n word bytes → (length word ≤ n) ⊎ ((length bytes ≤ n) ⊎ (slice_index_or word n 0 ≢ slice_index_or bytes n 0)) → IsCommon word bytes n
 common_is zero [] bytes front end = record { front = []; left = []; rest = bytes; word_is = refl; bytes_are = refl; long = refl; differ = tt }
 common_is zero (w ∷ word) [] front end = record { front = []; left = w ∷ word; rest = []; word_is = refl; bytes_are = refl; long = refl; differ = tt }
@@ -62,9 +65,11 @@ common_is (suc n) (w ∷ word) (b ∷ bytes) front end = longer (common_is n wor
       differ = c.differ;
     }
 
+-- what is left behind the bytes in common
 pub rest_is : (word bytes : List ℕ) (n : ℕ) (c : IsCommon word bytes n) → drop n bytes ≡ c.rest
 rest_is word bytes n c = ap (λ (k : ℕ). drop k bytes) (sym c.long) ∙ front_rest bytes c.front c.rest c.bytes_are
 
+-- where the whole word is in common, the bytes begin with it
 pub whole_word : (word bytes : List ℕ) (n : ℕ) → IsCommon word bytes n → n ≡ length word → bytes ≡ word ++ drop n bytes
 whole_word word bytes n c whole =
     let none : c.left ≡ [] = nil_from_length c.left (omega (arith, whole, c.long, ap length c.word_is, length-append c.front c.left)) in
@@ -79,6 +84,7 @@ differ_on (w ∷ left) [] behind (o ∷ other) some differ same e = absurd same
 differ_on (w ∷ left) (b ∷ rest) behind [] some differ same e = absurd same
 differ_on (w ∷ left) (b ∷ rest) behind (o ∷ other) some differ same e = let first : w ≡ o = cc in differ (first ∙ sym same)
 
+-- a stop behind the bytes in common, where these are not the whole word
 pub stuck_at_word : (word bytes : List ℕ) (n : ℕ) → IsCommon word bytes n → n ≢ length word → IsStuck Anything IsWord (the_word word) bytes (drop n bytes)
 stuck_at_word word bytes n c short = record {
   before = c.front;
