@@ -6,9 +6,19 @@ use Rattle.hc_reply.specs.declared.turn.Turn.{Turn}
 use Rattle.hc_reply.specs.declared.opening.Opening.{Opening}
 use Rattle.hc_reply.specs.declared.opening.Opening.TheVariants.{Conn, Ok}
 use Rattle.hc_reply.specs.Words.{opening_words}
-use Rattle.hc_reply.specs.Openings.{MayStand, IsAmong, IsMissed, IsBegun}
+use Rattle.hc_reply.specs.Openings.{MayStand, IsAmong}
 use Rattle.hc_reply.specs.Stops.{SameFirst, Anything, Differ, IsCommon, IsStuck}
 use Rattle.hc_reply.proofs.Words.{differ_on}
+
+-- the bytes do not begin with the word, and with at most so many bytes in common
+abbrev pub IsMissed : ℕ → List ℕ → List ℕ → Type 0
+IsMissed most bytes word = (n : ℕ) × (n ≤ most) × IsCommon word bytes n × (n ≢ length word)
+
+-- so many bytes begin the words of an opening that may stand here
+abbrev pub IsBegun : Turn → ℕ → List ℕ → Type 0
+IsBegun turn n bytes =
+    (front : List ℕ) × (rest : List ℕ) × (opening : Opening) × (more : List ℕ)
+    × (bytes ≡ front ++ rest) × (length front ≡ n) × MayStand turn opening × (opening_words opening ≡ front ++ more)
 
 -- each opening that may stand here is among those left, or was missed
 abbrev pub Tried : Turn → List Opening → ℕ → List ℕ → Type 0

@@ -1,10 +1,8 @@
--- The openings that may stand at a place, and how they are looked for.
-use Rattle.std.specs.Prelude.{◌≡◌, ◌≢◌, ◌⊎◌, ℕ, ◌≤◌, Bool, true, List, [], ◌∷◌, ◌++◌, length}
+-- The openings that may stand at a place.
+use Rattle.std.specs.Prelude.{◌≡◌, ◌⊎◌, Bool, true, List, [], ◌∷◌}
 use Rattle.hc_reply.specs.declared.turn.Turn.{Turn}
 use Rattle.hc_reply.specs.declared.opening.Opening.{Opening}
 use Rattle.hc_reply.specs.declared.opening.Opening.TheVariants.{Conn, Row, Ok, Ending, Bare, Number, Name, Names, Numbers, NoItem, TooBig, Busy}
-use Rattle.hc_reply.specs.Words.{opening_words}
-use Rattle.hc_reply.specs.Stops.{IsCommon}
 
 -- a connection, an ending, or a row or a last line of a reply
 abbrev pub may_stand : Turn → Opening → Bool
@@ -28,13 +26,3 @@ MayStand turn opening = may_stand turn opening ≡ true
 abbrev pub IsAmong : List Opening → Opening → Type 0
 IsAmong [] opening = ⊥
 IsAmong (one ∷ others) opening = (one ≡ opening) ⊎ IsAmong others opening
-
--- the bytes do not begin with the word, and with at most so many bytes in common
-abbrev pub IsMissed : ℕ → List ℕ → List ℕ → Type 0
-IsMissed most bytes word = (n : ℕ) × (n ≤ most) × IsCommon word bytes n × (n ≢ length word)
-
--- so many bytes begin the words of an opening that may stand here
-abbrev pub IsBegun : Turn → ℕ → List ℕ → Type 0
-IsBegun turn n bytes =
-    (front : List ℕ) × (rest : List ℕ) × (opening : Opening) × (more : List ℕ)
-    × (bytes ≡ front ++ rest) × (length front ≡ n) × MayStand turn opening × (opening_words opening ≡ front ++ more)

@@ -1,7 +1,7 @@
 // The opening of a line, looked for among all openings.
 ghost use Rattle.std.specs.Prelude.{◌≡◌, ◌⊎◌, ◌++◌, true, IfOk, IfErr};
 ghost use Rattle.hc_reply.specs.declared.opening.Opening.{Opening as Head};
-ghost use Rattle.hc_reply.specs.Openings.{IsAmong, IsBegun, IsMissed, MayStand, may_stand};
+ghost use Rattle.hc_reply.specs.Openings.{IsAmong, MayStand, may_stand};
 ghost use Rattle.hc_reply.specs.Stops.{Anything, StopsIn};
 ghost use Rattle.hc_reply.specs.Words.{opening_words};
 

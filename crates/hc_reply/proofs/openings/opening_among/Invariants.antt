@@ -2,7 +2,8 @@
 use Rattle.std.proofs.Common.{◌⊎◌, length}
 use Rattle.hc_reply.specs.declared.opening.Opening.{Opening}
 use Rattle.hc_reply.specs.Words.{opening_words}
-use Rattle.hc_reply.specs.Openings.{IsAmong, IsBegun, IsMissed, MayStand}
+use Rattle.hc_reply.specs.Openings.{IsAmong, MayStand}
+use Rattle.hc_reply.proofs.Tried.{IsBegun, IsMissed}
 use Rattle.hc_reply.proofs.openings.opening_among.Given as goal
 
 abbrev pub invariant-loop-left : goal.invariant-loop-left
