@@ -1,14 +1,15 @@
 -- Where a line's reader stops, in its opening and behind it.
-use Rattle.std.proofs.Common.{◌≡◌, ◌∙◌, ap, ℕ, pos, ◌^◌, ◌<◌, true, List, [], ◌∷◌, ◌++◌, refl, sym, subst, append_assoc, arith}
+use Rattle.std.proofs.Common.{◌≡◌, ◌∙◌, ap, ℕ, pos, ◌^◌, ◌<◌, true, List, [], ◌∷◌, ◌++◌, refl, sym, subst, append_assoc, arith, Result, IfOk, IfErr, Bor}
 use Rattle.hc_reply.specs.declared.item.Item.{Item}
 use Rattle.hc_reply.specs.declared.turn.Turn.{Turn}
+use Rattle.hc_reply.specs.declared.stop.Stop.{Stop}
 use Rattle.hc_reply.specs.declared.opening.Opening.{Opening}
 use Rattle.hc_reply.specs.declared.opening.Opening.TheVariants as opens
 use Rattle.hc_value.specs.declared.value.Value.TheVariants.{Null}
 use Rattle.hc_reply.specs.Output.{Behind, behind_text, line_text}
 use Rattle.hc_reply.specs.Words.{opening_words}
 use Rattle.hc_reply.specs.Reading.{spelling}
-use Rattle.hc_reply.specs.Items.{item_as, item_text, item_of, behind_end, FitsFrom, IsLine, IsItem, IsReadItem}
+use Rattle.hc_reply.specs.Items.{item_as, item_text, item_of, behind_end, FitsFrom, IsLine, IsItem, IsReadItem, StopsAtItem}
 use Rattle.hc_reply.specs.Openings.{MayStand}
 use Rattle.hc_reply.specs.Stops.{SameFirst, Anything, IsStuck}
 use Rattle.std.proofs.lemmas.Str.{IsUtf8-nil}
@@ -99,3 +100,13 @@ module _ (turn : Turn) (low : ℕ) where
     all ∙ ap (λ (l : List ℕ). opening_words opening ++ l) read.3 ∙ sym (line_split opening read.0 rest)
         ∙ ap (λ (l : List ℕ). l ++ rest) (sym (text_again opening read.0) ∙ ap item_text (sym read.2)),
   )
+
+-- what was read behind one opening was read behind another that is the same
+pub found_at : (low : ℕ) {head opening : Opening} {E : Type 0} (bytes : List ℕ) (result : Result (Item × Bor (List ℕ)) E) → head ≡ opening
+    → IfOk result (λ x. IsReadItem low opening bytes x.0 x.1.now) → IfOk result (λ x. IsReadItem low head bytes x.0 x.1.now)
+found_at low bytes result is found = subst (λ (h : Opening). IfOk result (λ x. IsReadItem low h bytes x.0 x.1.now)) (sym is) found
+
+-- a stop behind one opening is a stop behind another that is the same
+pub stops_at : (low : ℕ) {head opening : Opening} {T : Type 0} (bytes : List ℕ) (result : Result T Stop) → head ≡ opening
+    → IfErr result (StopsAtItem low opening bytes) → IfErr result (StopsAtItem low head bytes)
+stops_at low bytes result is stop = subst (λ (h : Opening). IfErr result (StopsAtItem low h bytes)) (sym is) stop
