@@ -50,7 +50,8 @@ fn read_all_of(alloc: Global, rest: Rest<'_>) -> Result<(Item, Rest<'_>), Stop<'
 {
     let (table, rest) = read_name(alloc, rest)?;
     let rest = skip(rest, TokenKind::Dot)?;
-    Ok((Item::AllOf(table), skip(rest, TokenKind::Star)?))
+    let rest = skip(rest, TokenKind::Star)?;
+    Ok((Item::AllOf(table), rest))
 }
 
 fn read_one(alloc: Global, rest: Rest<'_>) -> Result<(Item, Rest<'_>), Stop<'_>>

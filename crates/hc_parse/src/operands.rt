@@ -101,12 +101,20 @@ pub fn call(name: Str, args: Items<Expr>) -> Expr
     Expr::Call { name, args }
 }
 
+// Two values in boxes. The type is not known here, so that its drop is one step of the proof.
+fn boxed<T: Drop>(alloc: Global, one: T, other: T) -> Result<(Boxed<T>, Boxed<T>), NoMemory>
+    ensures { IfOk result (λ boxes. boxes ≡ (one, other)) }
+{
+    let one = Boxed::new(alloc, one)?;
+    let other = Boxed::new(alloc, other)?;
+    Ok((one, other))
+}
+
 /// An operator between two operands.
 pub fn binary(alloc: Global, op: BinaryOp, left: Expr, right: Expr) -> Result<Expr, NoMemory>
     ensures { IfOk result (λ made. made ≡ expr.Binary op left right) }
 {
-    let left = Boxed::new(alloc, left)?;
-    let right = Boxed::new(alloc, right)?;
+    let (left, right) = boxed(alloc, left, right)?;
     Ok(Expr::Binary { op, left, right })
 }
 
@@ -122,8 +130,7 @@ pub fn one_of(alloc: Global, not: bool, left: Expr, list: Items<Expr>) -> Result
 pub fn like(alloc: Global, not: bool, left: Expr, pattern: Expr) -> Result<Expr, NoMemory>
     ensures { IfOk result (λ made. made ≡ expr.Like not left pattern) }
 {
-    let left = Boxed::new(alloc, left)?;
-    let pattern = Boxed::new(alloc, pattern)?;
+    let (left, pattern) = boxed(alloc, left, pattern)?;
     Ok(Expr::Like { not, left, pattern })
 }
 
@@ -138,8 +145,7 @@ pub fn between(
     ensures { IfOk result (λ made. made ≡ expr.Between not left low high) }
 {
     let left = Boxed::new(alloc, left)?;
-    let low = Boxed::new(alloc, low)?;
-    let high = Boxed::new(alloc, high)?;
+    let (low, high) = boxed(alloc, low, high)?;
     Ok(Expr::Between {
         not,
         left,

@@ -2,7 +2,7 @@
 ghost use Rattle.std.specs.Prelude.{◌≡◌, [], codes};
 ghost use Rattle.hc_parse.specs.Limits.{limits};
 ghost use Rattle.hc_parse.specs.Coded.{Gives, read_of};
-ghost use Rattle.hc_parse.specs.Readers.{flag};
+ghost use Rattle.hc_parse.specs.Readers.{flag, both};
 ghost use Rattle.hc_parse.specs.Kinds.{head_is};
 ghost use Rattle.hc_parse.specs.Seen.{lexeme_of, seen};
 ghost use Rattle.hc_parse.specs.ReadingQueries.{query, ending, limiting, offset, ordering, grouping, direction, is_plain, integer};
@@ -62,18 +62,37 @@ type Grouping = (Items<Expr>, Option<Expr>);
 // The numbers of LIMIT and OFFSET.
 type Limiting = (Option<i64>, Option<i64>);
 
-// WHERE's condition, and then these, with ORDER BY's terms between them.
-type Ending = (Option<Expr>, (Grouping, (Items<Term>, Limiting)));
+// ORDER BY's terms, and these numbers.
+type Ordered = (Items<Term>, Limiting);
 
-// The parts of a query behind its tables.
+// WHERE's condition, and what stands behind it.
+type Ending = (Option<Expr>, (Grouping, Ordered));
+
+// The parts of a query behind its tables. One function for each two parts keeps few values where one of them stops.
 fn read_ending(alloc: Global, rest: Rest<'_>) -> Result<(Ending, Rest<'_>), Stop<'_>>
     ensures { Gives result (read_of ending limits rest.entry) }
 {
     let (filter, rest) = read_clause(alloc, rest, Keyword::Where)?;
+    let (grouped, rest) = read_grouped(alloc, rest)?;
+    Ok(((filter, grouped), rest))
+}
+
+// The parts behind WHERE.
+fn read_grouped(alloc: Global, rest: Rest<'_>) -> Result<((Grouping, Ordered), Rest<'_>), Stop<'_>>
+    ensures { Gives result (read_of (both grouping (λ groups. both ordering (λ order. limiting))) limits rest.entry) }
+{
     let (grouping, rest) = read_grouping(alloc, rest)?;
+    let (ordered, rest) = read_ordered(alloc, rest)?;
+    Ok(((grouping, ordered), rest))
+}
+
+// The parts behind GROUP BY and HAVING.
+fn read_ordered(alloc: Global, rest: Rest<'_>) -> Result<(Ordered, Rest<'_>), Stop<'_>>
+    ensures { Gives result (read_of (both ordering (λ order. limiting)) limits rest.entry) }
+{
     let (order, rest) = read_ordering(alloc, rest)?;
     let (limiting, rest) = read_limiting(rest)?;
-    Ok(((filter, (grouping, (order, limiting))), rest))
+    Ok(((order, limiting), rest))
 }
 
 // GROUP BY with its expressions, and HAVING where it stands.
