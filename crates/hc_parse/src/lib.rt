@@ -1,12 +1,14 @@
 //! The statements of SQL that the grammar has, read from their tokens.
 //!
-//! `parse` answers the statement that the tokens of a text are, or their fault: the place of the first token with
-//! which no statement goes on (`Syntax`), or of the first of what there is no room for (`TooDeep`). It has no other
-//! answer but `NoMemory`, where an allocation is refused.
+//! `parse` answers the statement that the tokens of a text are, or their fault, or want of memory (`NoMemory`):
 //!
-//! At most 100 levels may be open at once. An expression that is part of no other may have 1,000 operators, and FROM
-//! 8 tables. `specs/` has the grammar as a derivation, apart from the parser, and `laws` what holds of it: tokens are
-//! one statement or have one fault, and canonical text is read as its statement again, or is too deep.
+//! - `Syntax`: the place of the first token that no statement has there, or the text's length where the tokens end
+//!   too early. A ninth table of FROM is one.
+//! - `TooDeep`: the place of the token that opens the 101st level, or that begins the 1,001st operator with two sides
+//!   of an expression that is part of no other.
+//!
+//! `specs/` has the grammar as a derivation, apart from the parser, and `laws` what holds of it: tokens are one
+//! statement or have one fault, and canonical text is read as its statement again, or is too deep.
 #![tactic(auto)]
 
 mod changes;
