@@ -1,5 +1,6 @@
 -- What a rule's part begins with, and what may follow another part.
 use Rattle.std.proofs.Common.{◌≡◌, inl, inr, ◌||◌, Bool, true, false, List, [], ◌∷◌, ◌++◌, Option, Some, None, refl, sym, subst}
+use Rattle.std.proofs.lemmas.Bool.{or_right}
 use Rattle.hc_lex.specs.declared.token.TokenKind.{TokenKind}
 use Rattle.hc_parse.specs.Lexemes.{Lexeme}
 use Rattle.hc_parse.specs.Limits.{Limits}
@@ -67,11 +68,6 @@ either_way : (a b : Bool) → (a || false) ≡ true → (a || b) ≡ true
 either_way true b h = refl
 either_way false b h = absurd (cc)
 
--- and where the other does
-or_other : (a b : Bool) → b ≡ true → (a || b) ≡ true
-or_other true b h = refl
-or_other false b h = h
-
 -- one kind is among more
 one_starts : (kind : TokenKind) (kinds : List TokenKind) (front : List Lexeme) → Starts (kind ∷ []) front → Starts (kind ∷ kinds) front
 one_starts kind kinds [] h = h
@@ -80,7 +76,7 @@ one_starts kind kinds (lexeme ∷ front) h = either_way (is kind lexeme) (among 
 -- kinds are among one more
 others_start : (kind : TokenKind) (kinds : List TokenKind) (front : List Lexeme) → Starts kinds front → Starts (kind ∷ kinds) front
 others_start kind kinds [] h = h
-others_start kind kinds (lexeme ∷ front) h = or_other (is kind lexeme) (among kinds lexeme) h
+others_start kind kinds (lexeme ∷ front) h = or_right (is kind lexeme) (among kinds lexeme) h
 
 -- one rule or the other begins with what one or the other does
 pub begins_either : {A : Type 0} {This Other : Rule A} {kind : TokenKind} {kinds : List TokenKind} → Begins (kind ∷ []) This → Begins kinds Other → Begins (kind ∷ kinds) (Either This Other)

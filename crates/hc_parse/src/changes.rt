@@ -1,5 +1,5 @@
 // Statements that change rows.
-ghost use Rattle.std.specs.Prelude.{◌≡◌, ◌∷◌, []};
+ghost use Rattle.std.specs.Prelude.{◌∷◌, []};
 ghost use Rattle.hc_lex.specs.declared.token.TokenKind.TheVariants as kind;
 ghost use Rattle.hc_parse.specs.Limits.{limits};
 ghost use Rattle.hc_parse.specs.Coded.{Gives, read_of};

@@ -1,5 +1,5 @@
 // The columns of a new table, and the rules behind them.
-ghost use Rattle.std.specs.Prelude.{◌≡◌, []};
+ghost use Rattle.std.specs.Prelude.{[]};
 ghost use Rattle.hc_parse.specs.Limits.{limits};
 ghost use Rattle.hc_parse.specs.Coded.{Gives, read_of};
 ghost use Rattle.hc_parse.specs.Readers.{made, one, chain, nothing, pushed};

@@ -1,5 +1,5 @@
 // The levels of operators, from the loosest to the tightest.
-ghost use Rattle.std.specs.Prelude.{◌≡◌, map};
+ghost use Rattle.std.specs.Prelude.{◌≡◌};
 ghost use Rattle.hc_parse.specs.Kinds.{among};
 ghost use Rattle.hc_parse.specs.Levels.{tighter_than, signs_of, kinds_of};
 ghost use Rattle.hc_parse.specs.Literals.{sign_of, sign_kinds};

@@ -1,5 +1,4 @@
 // Lists with commas.
-ghost use Rattle.std.specs.Prelude.{◌≡◌};
 ghost use Rattle.hc_parse.specs.Limits.{limits};
 ghost use Rattle.hc_parse.specs.Reads.{Reader};
 ghost use Rattle.hc_parse.specs.Readers.{listed};

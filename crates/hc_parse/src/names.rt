@@ -1,5 +1,4 @@
 // Names and aliases.
-ghost use Rattle.std.specs.Prelude.{◌≡◌};
 ghost use Rattle.hc_parse.specs.Limits.{limits};
 ghost use Rattle.hc_parse.specs.Coded.{Gives, read_of};
 ghost use Rattle.hc_parse.specs.ReadingExpressions.{name};

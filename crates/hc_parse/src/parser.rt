@@ -1,5 +1,5 @@
 // The statement that the tokens of a text are.
-ghost use Rattle.std.specs.Prelude.{◌≡◌, ◌<◌, ◌≤◌, ◌^◌, ◌-◌, Ok, Err, IfOk, IfErr, ℕ, List, drop, length};
+ghost use Rattle.std.specs.Prelude.{◌≡◌, ◌<◌, ◌^◌, ◌-◌, Ok, Err, IfOk, IfErr, ℕ, List, drop, length};
 ghost use Rattle.hc_lex.specs.Places.{TokensAscend, TokensAtCharacters};
 ghost use Rattle.hc_lex.specs.Reading.{HasTokens};
 ghost use Rattle.hc_ast.specs.declared.statement.Stmt.{Stmt as Statement};

@@ -1,6 +1,4 @@
 // Names and expressions in lists, and those in parentheses.
-ghost use Rattle.std.specs.Prelude.{◌≡◌};
-ghost use Rattle.hc_lex.specs.declared.token.TokenKind.{TokenKind as Kind};
 ghost use Rattle.hc_parse.specs.Limits.{limits};
 ghost use Rattle.hc_parse.specs.Coded.{Gives, read_of};
 ghost use Rattle.hc_parse.specs.ReadingExpressions.{name, expression};

@@ -1,11 +1,11 @@
 // Queries.
-ghost use Rattle.std.specs.Prelude.{◌≡◌, [], codes};
+ghost use Rattle.std.specs.Prelude.{◌≡◌, []};
 ghost use Rattle.hc_parse.specs.Limits.{limits};
 ghost use Rattle.hc_parse.specs.Coded.{Gives, read_of};
 ghost use Rattle.hc_parse.specs.Readers.{flag, both};
 ghost use Rattle.hc_parse.specs.Kinds.{head_is};
 ghost use Rattle.hc_parse.specs.Seen.{lexeme_of, seen};
-ghost use Rattle.hc_parse.specs.ReadingQueries.{query, ending, limiting, offset, ordering, grouping, direction, is_plain, integer};
+ghost use Rattle.hc_parse.specs.ReadingQueries.{query, ending, limiting, offset, ordering, grouping, direction, is_plain};
 
 use crate::expressions::read_expression;
 use crate::items::any_wants_from;

@@ -1,5 +1,4 @@
 // Statements that make or drop tables and indexes.
-ghost use Rattle.std.specs.Prelude.{◌≡◌};
 ghost use Rattle.hc_parse.specs.Limits.{limits};
 ghost use Rattle.hc_parse.specs.Coded.{Gives, read_of};
 ghost use Rattle.hc_parse.specs.ReadingStatements.{create, create_table, create_index, drop_statement, if_exists_flag, if_not_exists_flag};

@@ -1,5 +1,4 @@
 // Statements, by their first word.
-ghost use Rattle.std.specs.Prelude.{◌≡◌};
 ghost use Rattle.hc_parse.specs.Limits.{limits};
 ghost use Rattle.hc_parse.specs.Coded.{Gives, read_of};
 ghost use Rattle.hc_parse.specs.Readers.{ended};

@@ -1,10 +1,9 @@
 // The tables of FROM.
-ghost use Rattle.std.specs.Prelude.{◌≡◌, None, if◌then◌else◌};
+ghost use Rattle.std.specs.Prelude.{None, if◌then◌else◌};
 ghost use Rattle.hc_parse.specs.Limits.{limits};
-ghost use Rattle.hc_parse.specs.Reads.{Reader};
 ghost use Rattle.hc_parse.specs.Coded.{Gives, read_of};
 ghost use Rattle.hc_parse.specs.Readers.{made, nothing, both};
-ghost use Rattle.hc_parse.specs.ReadingQueries.{clause, joined_source, joint, no_table, table_of, table_within, next_table, tables, from, joint_kinds};
+ghost use Rattle.hc_parse.specs.ReadingQueries.{clause, joined_source, joint, no_table, table_within, tables, from};
 
 use crate::kinds::{begins, begins_any};
 use crate::names::{read_alias, read_name};

@@ -1,6 +1,4 @@
 // Statements on transactions.
-ghost use Rattle.std.specs.Prelude.{◌≡◌};
-ghost use Rattle.hc_ast.specs.declared.statement.Stmt.TheVariants as stmt;
 ghost use Rattle.hc_parse.specs.Limits.{limits};
 ghost use Rattle.hc_parse.specs.Coded.{Gives, read_of};
 ghost use Rattle.hc_parse.specs.ReadingStatements.{begin, rollback, rollback_to, savepoint_name};
