@@ -29,6 +29,7 @@ use Rattle.hc_parse.proofs.Stuck.{whole_sticks}
 abbrev pub Cut : List ℕ → List Token → List Lexeme → List Lexeme → Type 0
 Cut text tokens front rest = CutMap (lexeme_of text) tokens front rest
 
+-- the lexemes of a front and one more token
 one_more : (text : List ℕ) (tokens : List Token) (front : List Lexeme) (one : List Token) (token : Token) → lexemes_of text one ≡ front
     → lexemes_of text (one ++ token ∷ []) ≡ front ++ lexeme_of text token ∷ []
 one_more text tokens front one token e = lexemes_behind text one (token ∷ []) ∙ ap (λ (l : List Lexeme). l ++ lexeme_of text token ∷ []) e
@@ -116,6 +117,7 @@ module _ (ends : List TokenKind) (reaches : Reaches HasTable Statement free ends
   open_found front rest g =
       open_not_is (front ++ g.0 ∷ []) (front, g.0, g.2, refl, g.5, g.6, g.8, g.9, g.10)
 
+  -- why the reader stopped is the fault at that place
   by_stop : (text : List ℕ) (tokens one other : List Token) (stop : Stop) (rest : List Lexeme) (s : Stuck stop (lexemes_of text tokens) rest) → tokens ≡ one ++ other
       → lexemes_of text one ≡ s.front → lexemes_of text other ≡ rest → HasFault text tokens (fault_at stop (place_of text other))
   by_stop text tokens one other Unexpected [] s cut same tail =

@@ -28,6 +28,7 @@ bytes_is (b ∷ bytes) digits h =
     ∙ ap (also (λ (l : List ℕ). (16 * digit_value h.0 + digit_value h.1) ∷ l)) (bytes_is bytes h.2 h.5)
     ∙ ap (λ (x : ℕ). Some (x ∷ bytes)) (sym h.4)
 
+-- what is found in a text is the blob that it spells
 pub blob_has : (text bytes : List ℕ) → blob_of text ≡ Some bytes → IsBlobOf text bytes
 blob_has [] bytes e = absurd (cc)
 blob_has (mark ∷ []) bytes e = absurd (cc)
@@ -39,5 +40,6 @@ blob_has (mark ∷ quote ∷ digits) bytes e = by_quote mark quote digits (quote
         (mark, h.0, ap (λ (x : ℕ). mark ∷ x ∷ digits) (eqb-true quote 39 t) ∙ ap (λ (l : List ℕ). mark ∷ 39 ∷ l) h.1, h.2)
     by_quote mark quote digits false t bytes e = absurd (cc)
 
+-- the blob that a text spells is found in it
 pub blob_is : (text bytes : List ℕ) → IsBlobOf text bytes → blob_of text ≡ Some bytes
 blob_is text bytes h = ap blob_of h.2 ∙ bytes_is bytes h.1 h.3

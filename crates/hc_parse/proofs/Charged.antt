@@ -46,6 +46,7 @@ module _ {A : Type 0} (At : Limits → Type 0) (Is : Rule A) (cost : A → ℕ) 
   abbrev Begun : Prefix
   Begun = OrNone (Completes Is (λ x. 1 + cost x))
 
+  -- with one operator more, what begins so begins an operator
   one_begun : (m : Limits) (j : ℕ) (f : List Lexeme) → Completes Is cost m j f → Begun m (1 + j) f
   one_begun m j f h = inr (h.0, h.1, h.2, omega (arith, h.3))
 
@@ -81,6 +82,7 @@ module _ {A : Type 0} (At : Limits → Type 0) (Is : Rule A) (cost : A → ℕ) 
     (begins_not : (l : Limits) (n t : Lexeme) → At l → among first n ≡ true → is negation_kind n ≡ true → among tests t ≡ true → Beyond (Completes Is (λ x. 1 + cost x)) l 0 (n ∷ t ∷ []))
     (refuses : (m : Limits) (j : ℕ) (n : Lexeme) (other : List Lexeme) → among first n ≡ true → is negation_kind n ≡ true → head_is (among tests) other ≡ false
     → (fault : Stop × List Lexeme) × (read m j (n ∷ other) ≡ Err fault)) where
+  -- what may begin an operator
   abbrev Operator : Prefix
   Operator = Completes Is (λ x. 1 + cost x)
 
@@ -129,6 +131,7 @@ module _ {A : Type 0} (At : Limits → Type 0) (Is : Rule A) (cost : A → ℕ) 
         again = λ m j others fails. none_comes m j others fails.1;
       }
 
+  -- NOT before another word is refused, with room or without
   refused : (m : Limits) (j : ℕ) (n : Lexeme) (other : List Lexeme) → among first n ≡ true → is negation_kind n ≡ true → head_is (among tests) other ≡ false
       → (fault : Stop × List Lexeme) × (charged read m j (n ∷ other) ≡ Err fault)
   refused m zero n other begun is_not no_test = none_comes m 0 (n ∷ other) refl
@@ -164,6 +167,7 @@ module _ {A : Type 0} (At : Limits → Type 0) (Is : Rule A) (cost : A → ℕ) 
       stuck_as (OrNone Operator) (charged read) l 0 (n ∷ t ∷ tokens) (n ∷ t ∷ tokens) rest NoOperatorForNot stop e (no_operator_for_not l n t tokens at begun is_not is)
   at_not l n tokens rest stop at begun is_not false is e = stuck_as (OrNone Operator) (charged read) l 0 (n ∷ tokens) tokens rest Unexpected stop e (no_test_behind l n tokens at begun is_not is)
 
+  -- a fault where there is no room for an operator is the first
   without_room : (l : Limits) (t : Lexeme) (tokens rest : List Lexeme) (stop : Stop) → At l → among first t ≡ true → (b : Bool) → is negation_kind t ≡ b
       → (let r : Read A = Err (if b then open_not (t ∷ tokens) else (NoOperator, t ∷ tokens)) in r ≡ Err (stop, rest)) → IsStuck (OrNone Operator) (charged read) l 0 (t ∷ tokens) stop rest
   without_room l t tokens rest stop at begun true is e = at_not l t tokens rest stop at begun is (head_is (among tests) tokens) refl e
@@ -180,6 +184,7 @@ module _ {A : Type 0} (At : Limits → Type 0) (Is : Rule A) (cost : A → ℕ) 
 -- where NOT is none of the first words
 module _ {A : Type 0} (At : Limits → Type 0) (Is : Rule A) (cost : A → ℕ) (read : Reader A) (first : List TokenKind) (sticks : Sticks At (Completes Is cost) read)
     (begins : (l : Limits) (t : Lexeme) → At l → among first t ≡ true → Beyond (Completes Is (λ x. 1 + cost x)) l 0 (t ∷ [])) (no_not : apart first (negation_kind ∷ []) ≡ true) where
+  -- none of the first words is NOT
   never : (n : Lexeme) → among first n ≡ true → is negation_kind n ≡ true → ⊥
   never n begun is_not = let bad = sym (ap (λ b. b || false) is_not) ∙ apart_from first (negation_kind ∷ []) n no_not begun in cc
 

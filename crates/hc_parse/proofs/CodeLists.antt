@@ -16,6 +16,7 @@ use Rattle.hc_parse.proofs.KindLists.{among_one}
 use Rattle.hc_parse.proofs.Gathers.{Gathers, gathers_start, gathers_on, gathers_stop, skip_reads, made_of, made_not}
 use Rattle.hc_lex.specs.declared.token.TokenKind.{TokenKind}
 
+-- there are as many lexemes as pieces
 pub length_seen : (pieces : List Piece) → length (seen pieces) ≡ length pieces
 length_seen [] = refl
 length_seen (piece ∷ pieces) = ap suc (length_seen pieces)

@@ -10,6 +10,7 @@ use Rattle.hc_parse.proofs.Lifts.{goes_after}
 module _ (C D : Prefix) (l n : Limits) (k i : ℕ) (here : (f : List Lexeme) → C l k f → D n i f) (beyond : (f : List Lexeme) → Beyond C l k f → Beyond D n i f)
     (higher : (m : Limits) (f : List Lexeme) → Higher l m → C m k f → (o : Limits) × Higher n o × D o i f)
     (roomier : (m : Limits) (f : List Lexeme) → Roomier l m → C m k f → (o : Limits) × Roomier n o × D o i f) where
+  -- what is open in `C`, by NOT, by IN or by a joint, is open in `D`
   open_not_over : (front : List Lexeme) → OpenNot C l k front → OpenNot D n i front
   open_not_over front h = (h.0, h.1, h.2, h.3, h.4, h.5, here h.0 h.6, beyond (h.0 ++ h.2 ∷ []) h.7, beyond (h.0 ++ h.1 ∷ h.2 ∷ []) h.8)
 
@@ -23,6 +24,7 @@ module _ (C D : Prefix) (l n : Limits) (k i : ℕ) (here : (f : List Lexeme) →
   here_or_in_over front (inl h) = inl (here front h)
   here_or_in_over front (inr h) = inr (open_in_over front h)
 
+  -- where a lexeme is unexpected, no fault shows before it
   unexpected_over : (front rest : List Lexeme) → Goes C Unexpected l k front rest → Goes D Unexpected n i front rest
   unexpected_over front rest (inl h) = inl (here front h)
   unexpected_over front rest (inr (inl h)) = inr (inl (open_not_over front h))

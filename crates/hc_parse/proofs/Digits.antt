@@ -4,6 +4,7 @@ use Rattle.std.specs.Char.{digit_value, is_ascii_hexdigit}
 use Rattle.hc_parse.specs.Literals.{also, digit_bytes}
 use Rattle.hc_parse.specs.Pieces.{are_hex_pairs}
 
+-- a last byte of the front is the first byte behind it
 with_front : (out : List ℕ) (b : ℕ) (o : Option (List ℕ)) → also (λ inner. (out ++ b ∷ []) ++ inner) o ≡ also (λ inner. out ++ inner) (also (λ inner. b ∷ inner) o)
 with_front out b None = refl
 with_front out b (Some inner) = ap Some (append_assoc out (b ∷ []) inner)
@@ -13,11 +14,13 @@ pub digits_on : (out : List ℕ) (high low : ℕ) (rest : List ℕ)
     → also (λ inner. (out ++ (16 * digit_value high + digit_value low) ∷ []) ++ inner) (digit_bytes rest) ≡ also (λ inner. out ++ inner) (digit_bytes (high ∷ low ∷ rest))
 digits_on out high low rest = with_front out (16 * digit_value high + digit_value low) (digit_bytes rest)
 
+-- where three hold, the last does
 both_true : (a b c : Bool) → (a && (b && c)) ≡ true → c ≡ true
 both_true true true c e = e
 both_true true false c e = absurd (let bad = e in cc)
 both_true false b c e = absurd (let bad = e in cc)
 
+-- pairs of digits without the first pair are such pairs
 pub pairs_behind : (high low : ℕ) (rest : List ℕ) → are_hex_pairs (high ∷ low ∷ rest) ≡ true → are_hex_pairs rest ≡ true
 pairs_behind high low rest e = both_true (is_ascii_hexdigit high) (is_ascii_hexdigit low) (are_hex_pairs rest) e
 

@@ -23,6 +23,7 @@ higher more = record limits { levels = limits.levels + more }
 abbrev roomier : ℕ → Limits
 roomier more = record limits { tables = limits.tables + more }
 
+-- the reader of a whole statement stops so
 abbrev pub Stuck : Stop → List Lexeme → List Lexeme → Type 0
 Stuck stop tokens rest = IsStuck (Completes Statement free) whole limits 0 tokens stop rest
 
@@ -43,6 +44,7 @@ in_deep front h = (limits.levels + h.2, limits.operators, h.6)
 no_in : (kinds : List TokenKind) (t : Lexeme) → among kinds (record { kind = kind.Keyword word.In; text = t.text }) ≡ false → t.kind ≡ kind.Keyword word.In → among kinds t ≡ true → ⊥
 no_in kinds t in_ h yes_ = absurd (let bad = sym yes_ ∙ ap (λ k. among kinds (record { kind = k; text = t.text })) h ∙ in_ in cc)
 
+-- NOT is none of these kinds
 no_not : (kinds : List TokenKind) (t : Lexeme) → among kinds (record { kind = kind.Keyword word.Not; text = t.text }) ≡ false → t.kind ≡ kind.Keyword word.Not → among kinds t ≡ true → ⊥
 no_not kinds t not_ h yes_ = absurd (let bad = sym yes_ ∙ ap (λ k. among kinds (record { kind = k; text = t.text })) h ∙ not_ in cc)
 
@@ -68,6 +70,7 @@ module _ (ends : List TokenKind) (reaches : Reaches HasTable Statement free ends
       (λ levels operators more. behind (enough levels operators) s.front more t
       (s.again (enough levels operators) 0 (t ∷ more) ((omega arith, omega arith, omega arith), omega arith, refl)))
 
+  -- with an unexpected lexeme a fault shows
   pub unexpected_nowhere : (tokens rest : List Lexeme) (t : Lexeme) (s : Stuck Unexpected tokens (t ∷ rest)) → Nowhere s.front t
   unexpected_nowhere tokens rest t s =
       nowhere_deep s.front t (unexpected_none tokens rest t s)
@@ -81,6 +84,7 @@ module _ (ends : List TokenKind) (reaches : Reaches HasTable Statement free ends
       (λ levels operators more. behind (enough levels operators) s.front more t
       (s.again (enough levels operators) 0 (t ∷ more) ((omega arith, omega arith, refl), omega arith, refl)))
 
+  -- with the name of one table too many a fault shows
   pub table_nowhere : (tokens rest : List Lexeme) (t : Lexeme) (s : Stuck NoTable tokens (t ∷ rest)) → among (kind.Name ∷ kind.QuotedName ∷ []) t ≡ true → Nowhere s.front t
   table_nowhere tokens rest t s is_name =
       nowhere_deep s.front t (table_none tokens rest t s)
@@ -121,6 +125,7 @@ module _ (ends : List TokenKind) (reaches : Reaches HasTable Statement free ends
       refutes ends reaches sounds limits (s.front ++ negation ∷ []) (omega arith)
       (λ more. behind limits s.front more negation (s.again limits 0 (negation ∷ more) (refl, refl, refl)))
 
+  -- with the word behind such a NOT a fault shows
   pub negation_nowhere : (tokens rest : List Lexeme) (negation t : Lexeme) (s : Stuck NoOperatorForNot tokens (negation ∷ t ∷ rest)) → among tests t ≡ true → Nowhere (s.front ++ negation ∷ []) t
   negation_nowhere tokens rest negation t s test (inl h) =
       negation_none tokens (t ∷ rest) negation s (begins_shorter limits (s.front ++ negation ∷ []) (t ∷ []) h)

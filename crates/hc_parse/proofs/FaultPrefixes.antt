@@ -15,6 +15,7 @@ use Rattle.hc_parse.proofs.Splits.{before_last}
 pub begins_shorter : (within : Limits) (front more : List Lexeme) → Begins within (front ++ more) → Begins within front
 begins_shorter within front more h = (more ++ h.0, h.1, subst (λ (l : List Lexeme). Statement within h.1 l) (append_assoc front more h.0) h.2)
 
+-- the same, however deep it nests
 pub deep_shorter : (front more : List Lexeme) → BeginsDeep (front ++ more) → BeginsDeep front
 deep_shorter front more h = (h.0, h.1, begins_shorter (record { levels = h.0; operators = h.1; tables = limits.tables }) front more h.2)
 
@@ -50,11 +51,13 @@ JointWords last =
     ((t : Lexeme) × (last ≡ t ∷ []) × JointKind t.kind)
     ⊎ ((t u : Lexeme) × (last ≡ t ∷ u ∷ []) × Joint (t ∷ []) × (u.kind ≡ kind.Keyword word.Join))
 
+-- one lexeme of such a kind is a joint's word
 one_word : (k : TokenKind) (last : List Lexeme) → JointKind k → Kind k last → JointWords last
 one_word k last is h =
     let o = kind_of_one k last h in
     inl (o.0, o.1, subst (λ (x : TokenKind). JointKind x) (sym o.2) is)
 
+-- each joint is made of such words
 pub joint_words : (last : List Lexeme) → Joint last → JointWords last
 joint_words last (inl h) = one_word kind.Comma last (inl refl) h
 joint_words last (inr (inl h)) = one_word (kind.Keyword word.Join) last (inr (inl refl)) h
@@ -81,6 +84,7 @@ first_word before t u front more room is has further e goes =
     (before_last before t front h.0 h.1))
     (before_last (before ++ t ∷ []) u front more (append_assoc before (t ∷ []) (u ∷ []) ∙ e))
 
+-- the same of what stands before a joint
 by_joint : (before last : List Lexeme) (front more : List Lexeme) (room : ℕ) → JointWords last → Begins limits before
     → Begins (record limits { tables = limits.tables + room }) (front ++ more) → front ++ more ≡ before ++ last → GoesOn (front ++ more) → GoesOn front
 by_joint before last front more room (inl h) has further e goes =

@@ -15,12 +15,15 @@ free found = 0
 abbrev pub HasTable : Limits → Type 0
 HasTable l = 1 ≤ l.tables
 
+-- what may go on to a statement
 abbrev Prefixes : Prefix
 Prefixes = Completes Statement free
 
+-- what may go on to a statement begins one
 pub begins : (l : Limits) (k : ℕ) (front : List Lexeme) → Prefixes l k front → Begins l front
 begins l k front h = (h.0, h.1, h.2)
 
+-- limits are their three numbers
 same_limits : (m : Limits) (levels operators tables : ℕ) → m.levels ≡ levels → m.operators ≡ operators → m.tables ≡ tables
     → m ≡ record { levels = levels; operators = operators; tables = tables }
 same_limits m levels operators tables a b c =
@@ -28,10 +31,12 @@ same_limits m levels operators tables a b c =
     (subst (λ (y : ℕ). m ≡ record { levels = m.levels; operators = y; tables = tables }) b
     (subst (λ (z : ℕ). m ≡ record { levels = m.levels; operators = m.operators; tables = z }) c refl))
 
+-- the same with more levels and operators
 pub deep : (front : List Lexeme) → Beyond Prefixes limits 0 front → BeginsDeep front
 deep front h =
     (h.0.levels, h.0.operators, subst (λ (m : Limits). Begins m front) (same_limits h.0 h.0.levels h.0.operators limits.tables refl refl h.2.2) (begins h.0 h.1 front h.4))
 
+-- NOT, IN or a joint that the reader holds for open is open by the grammar
 pub open_not_is : (front : List Lexeme) → OpenNot Prefixes limits 0 front → IsOpenNot front
 open_not_is front h = (
   h.0,
@@ -67,12 +72,14 @@ open_joint_is front h = (
   subst (λ (m : Limits). Begins m front) (same_limits h.2 limits.levels limits.operators (limits.tables + (h.2.tables - limits.tables)) h.6.0 h.6.1 (omega (arith, h.6.2))) (begins h.2 0 front h.7),
 )
 
+-- before an unexpected lexeme no fault shows
 pub unexpected_goes : (front rest : List Lexeme) → Goes Prefixes Unexpected limits 0 front rest → GoesOn front
 unexpected_goes front rest (inl h) = inl (begins limits 0 front h)
 unexpected_goes front rest (inr (inl h)) = inr (inl (open_not_is front h))
 unexpected_goes front rest (inr (inr (inl h))) = inr (inr (inl (open_in_is front h)))
 unexpected_goes front rest (inr (inr (inr h))) = inr (inr (inr (open_joint_is front h)))
 
+-- what may go on to a statement begins one, or ends with an open IN
 pub here_or_in : (front : List Lexeme) → Prefixes limits 0 front ⊎ OpenIn Prefixes limits 0 front → Begins limits front ⊎ IsOpenIn front
 here_or_in front (inl h) = inl (begins limits 0 front h)
 here_or_in front (inr h) = inr (open_in_is front h)

@@ -41,6 +41,7 @@ module _ {A : Type 0} (At : Limits → Type 0) (Is : Rule A) (cost : A → ℕ) 
             ∙ read_fresh m j (r.front ++ other) other x (omega (arith, r.spent, wider.1)) (r.again m (m.operators - cost x) other wider h);
       }
 
+  -- the limits but for the operators
   abbrev with_operators : Limits → ℕ → Limits
   with_operators l n = record { levels = l.levels; operators = n; tables = l.tables }
 

@@ -31,10 +31,12 @@ pub record HasHead (front : List Lexeme) : Type 0 where
   pub rest : List Lexeme
   pub is : front ≡ head ∷ rest
 
+-- what is not empty has a first lexeme
 pub head_of : (front : List Lexeme) → (front ≡ [] → ⊥) → HasHead front
 head_of [] filled = absurd (filled refl)
 head_of (t ∷ rest) filled = record { head = t; rest = rest; is = refl }
 
+-- what begins with one of these kinds is not empty
 pub starts_filled : (kinds : List TokenKind) (front : List Lexeme) → Starts kinds front → front ≡ [] → ⊥
 starts_filled kinds [] starts empty = let bad = starts in cc
 starts_filled kinds (t ∷ front) starts empty = let bad = empty in cc
@@ -43,6 +45,7 @@ or_behind : (a b c d : Bool) → d ≡ (b || c) → (a || d) ≡ ((a || b) || c)
 or_behind true b c d e = refl
 or_behind false b c d e = e
 
+-- what is among two lists is among one or the other
 among_append : (first ends : List TokenKind) (t : Lexeme) → among (first ++ ends) t ≡ (among first t || among ends t)
 among_append [] ends t = refl
 among_append (k ∷ first) ends t = or_behind (is k t) (among first t) (among ends t) (among (first ++ ends) t) (among_append first ends t)
@@ -84,12 +87,14 @@ module _ {A B : Type 0} (At : Limits → Type 0) (Part : B → Rule A) (d : A �
   part_ends [] rest begun = absurd (let bad = begun in cc)
   part_ends (t ∷ front) rest begun = between t begun
 
+  -- what may follow a part may also follow it behind further parts
   pub parts_end : (parts : List A) (value : B) (l : Limits) (front rest : List Lexeme) → At l → Parts Part join value l parts front → Ends ends rest → Ends ends (front ++ rest)
   parts_end [] value l front rest at has ended = subst (λ (f : List Lexeme). Ends ends (f ++ rest)) (sym has) ended
   parts_end (x ∷ parts) value l front rest at has ended =
       subst (λ (f : List Lexeme). Ends ends (f ++ rest)) (sym has.2)
       (subst (λ (f : List Lexeme). Ends ends f) (sym (append_assoc has.0 has.1 rest)) (part_ends has.0 (has.1 ++ rest) (starts value l x has.0 at has.3)))
 
+  -- parts that the rule has are gathered
   pub gather_reaches : (parts : List A) (n : ℕ) (value : B) (l : Limits) (left : ℕ) (front rest : List Lexeme) → At l → length (front ++ rest) ≤ n → Parts Part join value l parts front → Ends first rest → Ends ends rest
       → gather first part join n value l (costs d parts + left) (front ++ rest) ≡ Ok (folded join value parts, left, rest)
   gather_reaches [] n value l left front rest at few has none ended =
@@ -138,9 +143,11 @@ module _ {A B : Type 0} (At : Limits → Type 0) (Part : B → Rule A) (d : A �
     pub again : (n : ℕ) (m : Limits) (j : ℕ) (other : List Lexeme) → Wider l m → SameHead rest other → length (front ++ other) ≤ n
         → gather first part join n value m (costs d parts + j) (front ++ other) ≡ Ok (y, j, other)
 
+  -- with so many turns, what is gathered the rule has
   abbrev pub GathersFor : ℕ → Type 0
   GathersFor n = (value y : B) (l : Limits) (k left : ℕ) (tokens rest : List Lexeme) → At l → length tokens ≤ n → gather first part join n value l k tokens ≡ Ok (y, left, rest) → IsGathered value l k tokens y left rest
 
+  -- where no part begins, the value alone is gathered, and again before the same lexeme
   nothing_again : (value y : B) (rest : List Lexeme) → value ≡ y → Ends first rest → (n : ℕ) (m : Limits) (j : ℕ) (other : List Lexeme) → SameHead rest other → gather first part join n value m (0 + j) other ≡ Ok (y, j, other)
   nothing_again value y rest same ends n m j other h =
       ap (λ k. gather first part join n value m k other) (zero-add j)
@@ -160,6 +167,7 @@ module _ {A B : Type 0} (At : Limits → Type 0) (Part : B → Rule A) (d : A �
         again = λ n m j other wider h few. nothing_again value y rest p.0 (subst (λ f. Ends first f) p.2 ends) n m j other h;
       }
 
+  -- a part and what is gathered behind it are gathered together
   part_again : (value y : B) (l : Limits) (k left left_over : ℕ) (tokens behind rest : List Lexeme) (x : A) (r : IsRead (Part value) d (part value) l k tokens x left behind)
       (next : IsGathered (join value x) l left behind y left_over rest) → Starts first tokens
       → (n : ℕ) (m : Limits) (j : ℕ) (other : List Lexeme) → Wider l m → SameHead rest other → length ((r.front ++ next.front) ++ other) ≤ n
@@ -205,6 +213,7 @@ module _ {A B : Type 0} (At : Limits → Type 0) (Part : B → Rule A) (d : A �
       let next = ih (join value s.0.0) y l s.0.1 left s.0.2 rest at (left_shorter value l k s.0.1 tokens s.0.2 s.0.0 n r few) s.2 in
       part_gathered value y l k s.0.1 left tokens s.0.2 rest s.0.0 r next starts
 
+  -- what is gathered, the rule has
   pub gather_sounds : (n : ℕ) → GathersFor n
   gather_sounds zero value y l k left [] rest at few e = nothing_gathered value y l k left [] rest refl e
   gather_sounds zero value y l k left (t ∷ tokens) rest at few e = absurd (omega (arith, few))
@@ -236,9 +245,11 @@ module _ {A B : Type 0} (At : Limits → Type 0) (Part : B → Rule A) (d : A �
     pub again : (n : ℕ) (m : Limits) (j : ℕ) (other : List Lexeme) → Fails stop l k rest m j other → length (front ++ other) ≤ n
         → (fault : Stop × List Lexeme) × (gather first part join n value m j (front ++ other) ≡ Err fault)
 
+  -- with so many turns, each fault is the first
   abbrev pub SticksFor : ℕ → Type 0
   SticksFor n = (value : B) (l : Limits) (k : ℕ) (tokens rest : List Lexeme) (stop : Stop) → At l → length tokens ≤ n → gather first part join n value l k tokens ≡ Err (stop, rest) → IsGatherStuck value l k tokens stop rest
 
+  -- what begins a part begins parts, and so does a part with what begins parts behind it
   one_begun : (value : B) (m : Limits) (j : ℕ) (f : List Lexeme) → OrNone (Completes (Part value) d) m j f → Begun value m j f
   one_begun value m j f (inl none) = ([], [], ap (λ (g : List Lexeme). g ++ []) none, omega arith)
   one_begun value m j f (inr h) = (h.0, h.1 ∷ [], (f ++ h.0, [], sym (append-nil (f ++ h.0)), h.2, refl), omega (arith, h.3))
@@ -246,6 +257,7 @@ module _ {A B : Type 0} (At : Limits → Type 0) (Part : B → Rule A) (d : A �
   more_begun : (value : B) (x : A) (m : Limits) (j : ℕ) (one f : List Lexeme) → Part value m x one → Begun (join value x) m j f → Begun value m (d x + j) (one ++ f)
   more_begun value x m j one f has h = (h.0, x ∷ h.1, (one, f ++ h.0, append_assoc one f h.0, has, h.2), omega (arith, h.3))
 
+  -- a fault in the first part is one of what gathers
   in_part_again : (value : B) (l : Limits) (k : ℕ) (tokens rest : List Lexeme) (stop : Stop) (s : IsStuck (OrNone (Completes (Part value) d)) (part value) l k tokens stop rest) → Starts first tokens
       → (n : ℕ) (m : Limits) (j : ℕ) (other : List Lexeme) → Fails stop l k rest m j other → length (s.front ++ other) ≤ n
       → (fault : Stop × List Lexeme) × (gather first part join n value m j (s.front ++ other) ≡ Err fault)
@@ -267,6 +279,7 @@ module _ {A B : Type 0} (At : Limits → Type 0) (Part : B → Rule A) (d : A �
         again = in_part_again value l k tokens rest stop s starts;
       }
 
+  -- so is a fault behind the first part
   behind_again : (value : B) (l : Limits) (k left : ℕ) (tokens behind rest : List Lexeme) (x : A) (stop : Stop) (r : IsRead (Part value) d (part value) l k tokens x left behind)
       (next : IsGatherStuck (join value x) l left behind stop rest) → Starts first tokens
       → (n : ℕ) (m : Limits) (j : ℕ) (other : List Lexeme) → Fails stop l k rest m j other → length ((r.front ++ next.front) ++ other) ≤ n
@@ -315,6 +328,7 @@ module _ {A B : Type 0} (At : Limits → Type 0) (Part : B → Rule A) (d : A �
       (ih (join value h.0.0) l h.0.1 h.0.2 rest stop at (left_shorter At Part d first part join sounds filled value l k h.0.1 (t ∷ tokens) h.0.2 h.0.0 n r few) h.2) starts)
       (stopped (part value l k (t ∷ tokens)) (go_on first part join n l value) (stop, rest) (sym (through first part join n value l k (t ∷ tokens) starts) ∙ e))
 
+  -- each fault of what gathers is the first
   pub gather_sticks : (n : ℕ) → SticksFor n
   gather_sticks zero value l k tokens rest stop at few e = absurd (cc)
   gather_sticks (suc n) value l k tokens rest stop at few e =

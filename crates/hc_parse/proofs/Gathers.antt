@@ -13,6 +13,7 @@ pub record Gathers {A B : Type 0} (first : List TokenKind) (part : B → Reader 
   pub count : more + counter ≡ end
   pub same : gather first part join more value l k tokens ≡ whole
 
+-- where no part begins, the value is read; a part is joined; a part's fault is the whole's
 gather_end : {A B : Type 0} (first : List TokenKind) (part : B → Reader A) (join : B → A → B) (n : ℕ) (value : B) (l : Limits) (k : ℕ) (tokens : List Lexeme)
     → head_is (among first) tokens ≡ false → gather first part join n value l k tokens ≡ Ok (value, k, tokens)
 gather_end first part join zero value l k tokens h = refl
@@ -28,12 +29,14 @@ gather_stop : {A B : Type 0} (first : List TokenKind) (part : B → Reader A) (j
     → gather first part join (suc n) value l k tokens ≡ Err fault
 gather_stop first part join n value l k tokens fault h e = rw (h, e) refl
 
+-- behind what is read first, as many turns are left as lexemes
 pub gathers_start : {A B : Type 0} {first : List TokenKind} {part : B → Reader A} {join : B → A → B} (start : Reader B) (l : Limits) (k left end : ℕ) (tokens rest : List Lexeme) (value : B)
     → start l k tokens ≡ Ok (value, left, rest) → length rest ≡ end
     → Gathers first part join l (chain start first part join l k tokens) 0 end value left rest
 gathers_start {A} {B} {first} {part} {join} start l k left end tokens rest value e n =
     record { more = length rest; count = omega arith; same = rw e refl }
 
+-- a turn joins the part that it reads
 pub gathers_on : {A B : Type 0} {first : List TokenKind} {part : B → Reader A} {join : B → A → B} {l : Limits} {whole : Read B} {counter end : ℕ} {value : B} {k : ℕ} {tokens : List Lexeme}
     (left : ℕ) (rest : List Lexeme) (x : A) → Gathers first part join l whole counter end value k tokens → counter < end
     → head_is (among first) tokens ≡ true → part value l k tokens ≡ Ok (x, left, rest)
@@ -45,6 +48,7 @@ gathers_on {A} {B} {first} {part} {join} {l} {whole} {counter} {end} {value} {k}
     go (suc n) count same =
         record { more = n; count = omega arith; same = sym (gather_on first part join n value l k left tokens rest x h e) ∙ same }
 
+-- where a part stops, the whole does
 pub gathers_stop : {A B : Type 0} {first : List TokenKind} {part : B → Reader A} {join : B → A → B} {l : Limits} {whole : Read B} {counter end : ℕ} {value : B} {k : ℕ} {tokens : List Lexeme}
     (fault : Stop × List Lexeme) → Gathers first part join l whole counter end value k tokens → counter < end
     → head_is (among first) tokens ≡ true → part value l k tokens ≡ Err fault → whole ≡ Err fault
@@ -54,6 +58,7 @@ gathers_stop {A} {B} {first} {part} {join} {l} {whole} {counter} {end} {value} {
     go zero count same = absurd (omega arith)
     go (suc n) count same = sym same ∙ gather_stop first part join n value l k tokens fault h e
 
+-- where no part begins, or no turn is left, the value is that of the whole
 pub gathers_end : {A B : Type 0} {first : List TokenKind} {part : B → Reader A} {join : B → A → B} {l : Limits} {whole : Read B} {counter end : ℕ} {value : B} {k : ℕ} {tokens : List Lexeme}
     → Gathers first part join l whole counter end value k tokens → head_is (among first) tokens ≡ false → whole ≡ Ok (value, k, tokens)
 gathers_end {A} {B} {first} {part} {join} {l} {whole} {counter} {end} {value} {k} {tokens} so h =
@@ -78,6 +83,7 @@ pub made_of : {A B : Type 0} (f : A → B) (read : Read A) (y : B) (left : ℕ) 
 made_of f (Err fault) y left rest e = absurd (let bad = e in cc)
 made_of f (Ok x) y left rest e = (x.0, grind arith, grind arith)
 
+-- where nothing is made of a value, there was none, by the same fault
 pub made_not : {A B : Type 0} (f : A → B) (read : Read A) (fault : Stop × List Lexeme)
     → and_then read (λ a k tokens. Ok (f a, k, tokens)) ≡ Err fault → read ≡ Err fault
 made_not f (Err other) fault e = cc

@@ -8,6 +8,7 @@ use Rattle.hc_parse.proofs.Refuted as refuted
 use Rattle.hc_parse.proofs.ReadAgain as again
 use Rattle.hc_parse.proofs.StatementFacts.{statement_ends, statement_reaches, statement_sounds, statement_sticks}
 
+-- lexemes are one statement at most, whatever the limits
 pub one_statement : HasOneStatement
 one_statement within lexemes one other first second =
     let further : Limits = record { levels = within.levels; operators = within.operators; tables = within.tables + 1 } in
@@ -15,8 +16,10 @@ one_statement within lexemes one other first second =
     refuted.one_statement statement_ends statement_reaches statement_sounds further lexemes one other (omega arith)
     (statement_kept within further wider one lexemes first) (statement_kept within further wider other lexemes second)
 
+-- tokens are a statement or have a fault
 pub statement_or_fault : EachIsStatementOrFault
 statement_or_fault text tokens = again.statement_or_fault statement_ends statement_reaches statement_sounds statement_sticks text tokens
 
+-- canonical text is read as its statement again, or is too deep
 pub read_so : IsReadAgain
 read_so = read_again (λ text tokens statement levels lie more has. again.deep_or_statement statement_ends statement_reaches statement_sounds statement_sticks text tokens statement levels more has)

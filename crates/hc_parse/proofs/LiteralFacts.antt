@@ -86,6 +86,7 @@ blob_literal lexeme v false t e =
     let n = integer_has lexeme h.0 h.1 in
     subst (λ (x : Value). IsLiteral lexeme x) (sym (h.2 ∙ ap (λ (i : ℤ). Int i) n.1)) (n.2, n.3)
 
+-- what is found is a literal, whether it is a text, or NULL, or not
 text_literal : (lexeme : Lexeme) (v : Value) (test : Bool) → is kind.Text lexeme ≡ test
     → (if test then also Text (unquoted 39 lexeme.text) else (if is kind.Blob lexeme then also Blob (blob_of lexeme.text) else also Int (integer_of lexeme))) ≡ Some v
     → IsLiteral lexeme v
@@ -117,25 +118,31 @@ literal_is lexeme (Int (negsuc n)) h = absurd h
 literal_is lexeme (Text x) h = ap (λ (k : TokenKind). as_kind k lexeme.text) h.0 ∙ ap (λ (t : List ℕ). also Text (unquoted 39 t)) h.1 ∙ ap (also Text) (unquoted_is 39 x)
 literal_is lexeme (Blob x) h = ap (λ (k : TokenKind). as_kind k lexeme.text) h.0 ∙ ap (also Blob) (blob_is lexeme.text x h.1)
 
+-- a literal of one lexeme
 abbrev pub LiteralRule : Rule Value
 LiteralRule l v lexemes = One (λ lexeme. IsLiteral lexeme v) lexemes
 
 module _ (At : Limits → Type 0) where
+  -- each literal is read
   pub literal_reaches : (ends : List TokenKind) → Reaches At LiteralRule (λ v. 0) ends (one literal_of)
   literal_reaches ends =
       same_reaches At (OneOf literal_of) LiteralRule (λ v. 0) (one literal_of) ends (λ l v front h. (h.0, h.1, literal_is h.0 v h.2)) (one_reaches At (λ v. 0) literal_of (λ v. refl) ends)
 
+  -- what is read is a literal
   pub literal_sounds : Sounds At LiteralRule (λ v. 0) (one literal_of)
   literal_sounds = same_sounds At (OneOf literal_of) LiteralRule (λ v. 0) (one literal_of) (λ l v front h. (h.0, h.1, literal_has h.0 v h.2)) (one_sounds At (λ v. 0) literal_of (λ v. refl))
 
+  -- each fault is the first
   pub literal_sticks : Sticks At (Completes LiteralRule (λ v. 0)) (one literal_of)
   literal_sticks =
       same_sticks At (OneOf literal_of) LiteralRule (λ v. 0) (one literal_of) (λ l v front h. (h.0, h.1, literal_has h.0 v h.2))
       (one_sticks At (λ v. 0) literal_of (λ v. refl) (record { kind = kind.Keyword word.Null; text = [] }) Null refl)
 
+  -- there is a literal, and it has no operator
   pub literal_some : HasSome At LiteralRule (λ v. 0)
   literal_some l at = (record { kind = kind.Keyword word.Null; text = [] } ∷ [], Null, (record { kind = kind.Keyword word.Null; text = [] }, refl, refl), refl)
 
+-- a literal is of one of the kinds of literals
 literal_kind : (lexeme : Lexeme) (v : Value) → IsLiteral lexeme v → among literal_kinds lexeme ≡ true
 literal_kind lexeme Null h = ap (λ (k : TokenKind). among literal_kinds (record { kind = k; text = lexeme.text })) h
 literal_kind lexeme (Int (pos n)) h = ap (λ (k : TokenKind). among literal_kinds (record { kind = k; text = lexeme.text })) h.0

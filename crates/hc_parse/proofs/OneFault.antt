@@ -31,6 +31,7 @@ pub record IsPlace (text : List ℕ) (tokens front rest : List Token) : Type 0 w
   pub goes : GoesOn (lexemes_of text front)
   pub stops : StopsBefore text front rest
 
+-- nothing goes on with an unexpected token
 stops_of : (text : List ℕ) (front rest : List Token) → IsUnexpected text front rest → StopsBefore text front rest
 stops_of text front [] h = tt
 stops_of text front (token ∷ rest) h = h.0
@@ -67,11 +68,13 @@ abbrev pub DeepAt : List ℕ → List Token → List Token → Token → List To
 DeepAt text tokens front token rest =
     (tokens ≡ front ++ token ∷ rest) × (Begins limits (lexemes_of text front) ⊎ IsOpenIn (lexemes_of text front)) × IsTooDeep text front token
 
+-- the same, where NOT is the place
 abbrev pub DeepAtNot : List ℕ → List Token → List Token → Token → Token → List Token → Type 0
 DeepAtNot text tokens front negation token rest =
     (tokens ≡ front ++ negation ∷ token ∷ rest) × IsOpenNot (lexemes_of text (front ++ negation ∷ [])) × ¬ Begins limits (lexemes_of text (front ++ negation ∷ []))
     × IsTooDeep text (front ++ negation ∷ []) token
 
+-- a fault for want of room is at such a place
 deep_place : (text : List ℕ) (tokens front : List Token) (token : Token) (rest : List Token) → DeepAt text tokens front token rest → IsPlace text tokens front (token ∷ rest)
 deep_place text tokens front token rest h = record { is = h.0; goes = ⊎_elim (λ b. inl b) (λ i. inr (inr (inl i))) h.1; stops = h.2.0 }
 
@@ -93,6 +96,7 @@ not_in front n i =
     let clash : kind.Keyword word.Not ≡ kind.Keyword word.In = sym one.2 ∙ ap (λ (x : Lexeme). x.kind) last.1 ∙ i.4 in
     absurd (cc)
 
+-- the two ways of a fault for want of room have no place in common
 deep_not_clash : (text : List ℕ) (tokens front : List Token) (token : Token) (rest other : List Token) (negation next : Token) (behind : List Token)
     → DeepAt text tokens front token rest → DeepAtNot text tokens other negation next behind → front ≡ other ++ negation ∷ [] → ⊥
 deep_not_clash text tokens front token rest other negation next behind h g e =
@@ -126,6 +130,7 @@ one_syntax text tokens at (TooDeep place) h (inr g) =
     absurd (not_both text h.0 h.1 (g.0 ++ g.2 ∷ []) g.1 g.3 h.4 front (same_rest text tokens h.0 h.1 (g.0 ++ g.2 ∷ []) (g.3 ∷ g.1) p q front) g.7)
 one_syntax text tokens at NoMemory h g = absurd g
 
+-- two faults for want of room have one place
 one_deep : (text : List ℕ) (tokens : List Token) (at place : ℕ) → HasFault text tokens (TooDeep at) → HasFault text tokens (TooDeep place) → at ≡ place
 one_deep text tokens at place (inl h) (inl g) =
     let p = deep_place text tokens h.0 h.2 h.1 (h.3, h.4, h.5) in
@@ -146,6 +151,7 @@ one_deep text tokens at place (inr h) (inr g) =
     let last = same_last h.0 g.0 h.2 g.2 (one_place text tokens (h.0 ++ h.2 ∷ []) (h.3 ∷ h.1) (g.0 ++ g.2 ∷ []) (g.3 ∷ g.1) p q) in
     h.8 ∙ from_same h.2 g.2 last.1 ∙ sym g.8
 
+-- tokens have one fault at most
 pub one_fault : HasOneFault
 one_fault text tokens (Syntax at) other h g = one_syntax text tokens at other h g
 one_fault text tokens (TooDeep at) (Syntax place) h g = sym (one_syntax text tokens place (TooDeep at) g h)
@@ -164,10 +170,12 @@ goes_within text tokens front token rest statement has is =
           (ap (lexemes_of text) (is ∙ sym (append_assoc front (token ∷ []) rest)) ∙ lexemes_behind text (front ++ token ∷ []) rest) has,
     )
 
+-- in a statement no token is unexpected, nor is its end
 no_syntax : (text : List ℕ) (tokens front rest : List Token) (statement : Stmt) → IsStatementOf text tokens statement → tokens ≡ front ++ rest → IsUnexpected text front rest → ⊥
 no_syntax text tokens front [] statement has is h = h statement (subst (λ (l : List Token). Statement limits statement (lexemes_of text l)) (is ∙ append-nil front) has)
 no_syntax text tokens front (token ∷ rest) statement has is h = h.0 (goes_within text tokens front token rest statement has is)
 
+-- no statement has a fault
 pub not_both_ways : HasNotStatementAndFault
 not_both_ways text tokens statement (Syntax at) has h = no_syntax text tokens h.0 h.1 statement has h.2 h.4
 not_both_ways text tokens statement (TooDeep at) has (inl h) = h.5.0 (goes_within text tokens h.0 h.2 h.1 statement has h.3)

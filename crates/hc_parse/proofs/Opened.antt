@@ -26,6 +26,7 @@ record IsOne (kind : TokenKind) (front : List Lexeme) : Type 0 where
   pub is : front ≡ lexeme ∷ []
   pub of_kind : lexeme.kind ≡ kind
 
+-- what is of a kind is one lexeme
 one_of_kind : (kind : TokenKind) (front : List Lexeme) → Kind kind front → IsOne kind front
 one_of_kind kind [] has = absurd (let bad = has in cc)
 one_of_kind kind (t ∷ []) has = record { lexeme = t; is = refl; of_kind = (let same = has in cc) }
@@ -36,6 +37,7 @@ level_left : (n : ℕ) → HasRoom n → (m : ℕ) × (n ≡ suc m)
 level_left zero room = absurd room
 level_left (suc n) room = (n, refl)
 
+-- a number from 1 on has one below it
 some_level : (n : ℕ) → 1 ≤ n → (m : ℕ) × (n ≡ suc m)
 some_level zero some = absurd (omega (arith, some))
 some_level (suc n) some = (n, refl)

@@ -11,6 +11,7 @@ and_back : {A : Type 0} (stands : Bool) (read : Read A) → read ≡ and_then {A
 and_back stands (Ok x) = refl
 and_back stands (Err fault) = refl
 
+-- by whether the word stands
 by_head : {A : Type 0} (kind : TokenKind) (next : Reader A) (l : Limits) (k : ℕ) (tokens : List Lexeme) (stands : Bool) → head_is (is kind) tokens ≡ stands
     → next l k (if stands then drop 1 tokens else tokens) ≡ optional kind next l k tokens
 by_head kind next l k tokens true h = rw h (and_back true (next l k (drop 1 tokens)))

@@ -42,6 +42,7 @@ query_same =
 abbrev pub ItemsRule : Rule (List Item)
 ItemsRule l xs front = Listed (ItemPhrase l) xs front
 
+-- DISTINCT, or nothing
 abbrev pub DistinctRule : Rule Bool
 DistinctRule l b front = If b (kind.Keyword word.Distinct ∷ []) front
 
@@ -61,6 +62,7 @@ without_from (choice.All ∷ items) none = absurd (cc)
 without_from (choice.AllOf table ∷ items) none = absurd (cc)
 without_from (choice.One value alias ∷ items) none = (tt, without_from items none)
 
+-- where each item is without FROM, none wants it
 none_wants : (items : List Item) → AllByRecursion IsWithoutFrom items → list_any wants_from items ≡ false
 none_wants [] all = refl
 none_wants (choice.All ∷ items) all = absurd all.0
@@ -68,6 +70,7 @@ none_wants (choice.AllOf table ∷ items) all = absurd all.0
 none_wants (choice.One value alias ∷ items) all = none_wants items all.1
 
 module _ (l : Limits) (q : Select) where
+  -- the clauses behind the tables
   abbrev Where : List Lexeme → Type 0
   Where front = Maybe (Clause l (kind.Keyword word.Where)) q.filter front
 
@@ -87,12 +90,14 @@ module _ (l : Limits) (q : Select) where
   abbrev Wants : Type 0
   Wants = (q.having ≢ None → q.groups ≢ []) × (q.offset ≢ None → q.limit ≢ None)
 
+  -- these clauses, as the reader has them and as the grammar has them
   abbrev EndingParts : List Lexeme → Type 0
   EndingParts front = EndingRule l (q.filter, ((q.groups, q.having), (q.order, (q.limit, q.offset)))) front
 
   abbrev EndingPhrase : List Lexeme → Type 0
   EndingPhrase front = (Where ⨾ (Group ⨾ (Having ⨾ (Order ⨾ Limit)))) front
 
+  -- the two are the same, with what is wanted
   to_ending : (front : List Lexeme) → EndingParts front → Wants × EndingPhrase front
   to_ending front h =
       let behind = h.4 in
@@ -115,6 +120,7 @@ module _ (l : Limits) (q : Select) where
       let order = behind.4 in
       (h.0, h.1, h.2, h.3, (behind.0, behind.1, behind.2, (wants.0, behind.3), (order.0, order.1, order.2, order.3, (wants.1, order.4))))
 
+  -- the same of the whole query
   to_body : (front : List Lexeme) → BodyRule l (parts_of q) front → QueryBody l q front
   to_body front h =
       let items = h.4 in

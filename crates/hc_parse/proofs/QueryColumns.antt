@@ -21,6 +21,7 @@ module _ (Room : Type 0) (Within : Place → Expr → List Lexeme → Type 0) wh
   in_all x front h =
       alone _ _ x front (alone _ _ x front (inr (alone _ _ x front (alone _ _ x front (alone _ _ x front (alone _ _ x front (alone _ _ x front (inr (inr (inr h))))))))))
 
+-- a column with its table is an expression at each number of levels
 column_nested : (n : ℕ) (table column : List ℕ) (front : List Lexeme) → (Name table ⨾ Kind kind.Dot) front → (rest : List Lexeme) → Name column rest → Nested n Whole (expr.Name (Some table) column) (front ++ rest)
 unfolding Nested
 column_nested zero table column front h rest named = in_all ⊥ (λ p t l. ⊥) (expr.Name (Some table) column) (front ++ rest) (inr (inl (Some table, column, refl, (front, rest, refl, h, named))))

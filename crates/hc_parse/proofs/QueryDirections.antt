@@ -19,6 +19,7 @@ use Rattle.hc_parse.proofs.Exact.{Exact, Begins, Follows, Same, exact_same, exac
 use Rattle.hc_parse.proofs.ExactStarts.{follows_begun, follows_nothing, follows_either}
 use Rattle.hc_parse.proofs.ExactOptions.{exact_one}
 
+-- a direction of ORDER BY
 abbrev pub DirectionRule : Rule Bool
 DirectionRule l b front = Direction b front
 
@@ -34,6 +35,7 @@ word_by letters value x lexeme false passes e = absurd (cc)
 word_has : (letters : List ℕ) (value x : Bool) (lexeme : Lexeme) → plain_word letters value lexeme ≡ Some x → (value ≡ x) × (is_plain letters lexeme ≡ true)
 word_has letters value x lexeme e = word_by letters value x lexeme (is_plain letters lexeme) refl e
 
+-- a word of the letters is read
 word_is : (letters : List ℕ) (value : Bool) (lexeme : Lexeme) → is_plain letters lexeme ≡ true → plain_word letters value lexeme ≡ Some value
 word_is letters value lexeme passes = ap (λ t. if t then Some value else None) passes
 
@@ -43,6 +45,7 @@ plain_has letters lexeme passes =
     let parts = each_of (is kind.Name lexeme) (str_eq_ignore_ascii_case letters lexeme.text) passes in
     (kind_is kind.Name lexeme refl parts.0, parts.1)
 
+-- a plain name of the letters passes
 plain_is : (letters : List ℕ) (lexeme : Lexeme) → lexeme.kind ≡ kind.Name → str_eq_ignore_ascii_case letters lexeme.text ≡ true → is_plain letters lexeme ≡ true
 plain_is letters lexeme named same = ap (λ b. b && str_eq_ignore_ascii_case letters lexeme.text) (is_of_kind kind.Name lexeme named) ∙ same
 
@@ -62,9 +65,11 @@ to_name letters value x l front h =
     let word = word_has letters value x h.0 h.2 in
     (word.0, (h.0, h.1, plain_has letters h.0 word.1))
 
+-- a plain name is a word
 from_name : (letters : List ℕ) (value : Bool) (l : Limits) (front : List Lexeme) → PlainName letters front → Word letters value l value front
 from_name letters value l front h = (h.0, h.1, word_is letters value h.0 (plain_is letters h.0 h.2.0 h.2.1))
 
+-- the ways are the grammar's
 to_direction : (l : Limits) (b : Bool) (front : List Lexeme) → Ways l b front → Direction b front
 to_direction l b front (inl h) = let word = to_name (codes "DESC") true b l front h in subst (λ (c : Bool). Direction c front) word.0 word.1
 to_direction l b front (inr (inl h)) = let word = to_name (codes "ASC") false b l front h in subst (λ (c : Bool). Direction c front) word.0 (inr word.1)
@@ -87,6 +92,7 @@ no_word : (letters : List ℕ) (rest : List Lexeme) → Ends (kind.Name ∷ []) 
 no_word letters [] ended = refl
 no_word letters (t ∷ rest) ended = ap (λ b. b && str_eq_ignore_ascii_case letters t.text) (sym (among_one kind.Name (t ∷ rest)) ∙ ended)
 
+-- where nothing is written and no name follows, no word stands
 nothing_fails : (letters : List ℕ) (ends : List TokenKind) (l : Limits) (x : Bool) (front rest : List Lexeme) → included (kind.Name ∷ []) ends ≡ true → NothingOf false l x front → Ends ends rest
     → head_is (is_plain letters) (front ++ rest) ≡ false
 nothing_fails letters ends l x front rest fewer h after =
@@ -104,6 +110,7 @@ other_by : (lexeme : Lexeme) (b : Bool) → is_plain (codes "DESC") lexeme ≡ b
 other_by lexeme false desc asc = refl
 other_by lexeme true desc asc = absurd (not_both lexeme.text (plain_has (codes "ASC") lexeme asc).1 (plain_has (codes "DESC") lexeme desc).1)
 
+-- where ASC or nothing stands, DESC does not
 other_fails : (ends : List TokenKind) (l : Limits) (x : Bool) (front rest : List Lexeme) → included (kind.Name ∷ []) ends ≡ true → Rest l x front → Ends ends rest
     → head_is (is_plain (codes "DESC")) (front ++ rest) ≡ false
 other_fails ends l x front rest fewer (inl h) after =

@@ -30,9 +30,11 @@ use Rattle.hc_parse.proofs.QueryKinds.{filter_ends, grouping_ends, ordering_ends
 follows_same : {A : Type 0} {This Other : Rule A} {ends others : List TokenKind} → Same This Other → Follows ends others This → Follows ends others Other
 follows_same same follows = record { ended = λ l x front rest h after. follows.ended l x front rest (same.from l x front h) after }
 
+-- an expression with its direction
 abbrev pub TermRule : Rule Term
 TermRule l x front = TermPhrase l x front
 
+-- ORDER BY with its list, or nothing
 abbrev pub OrderingRule : Rule (List Term)
 OrderingRule l xs front = By (kind.Keyword word.Order) (TermPhrase l) xs front
 
@@ -46,6 +48,7 @@ abbrev pub LimitingRule : Rule (Option ℤ × Option ℤ)
 LimitingRule l x front =
     (x.1 ≢ None → x.0 ≢ None) × (Maybe (Limited (kind.Keyword word.Limit)) x.0 ⨾ Maybe (Limited (kind.Keyword word.Offset)) x.1) front
 
+-- OFFSET with its number, or nothing
 abbrev MaybeOffset : Rule (Option ℤ)
 MaybeOffset l x front = Maybe (Limited (kind.Keyword word.Offset)) x front
 
@@ -53,6 +56,7 @@ MaybeOffset l x front = Maybe (Limited (kind.Keyword word.Offset)) x front
 abbrev LimitingWays : Rule (Option ℤ × Option ℤ)
 LimitingWays = Either (Made some_first (Skipped (kind.Keyword word.Limit ∷ []) (Both NumberRule (λ limit. MaybeOffset)))) (NothingOf (None, None))
 
+-- the ways are the grammar's
 to_limiting : (l : Limits) (x : Option ℤ × Option ℤ) (front : List Lexeme) → LimitingWays l x front → LimitingRule l x front
 to_limiting l x front (inl h) =
     let parts = h.2 in
@@ -97,6 +101,7 @@ limiting_same = record { to = to_limiting; from = λ l x front h. from_limiting 
 exact_offset : Exact MaybeOffset query_ends offset
 exact_offset = exact_maybe (exact_skip (kind.Keyword word.Offset ∷ []) refl exact_integer) (begins_skip {Is = NumberRule}) refl
 
+-- OFFSET or nothing may follow a number
 follows_offset : Follows [] query_ends MaybeOffset
 follows_offset = follows_maybe {kinds = kind.Keyword word.Offset ∷ []} (begins_skip {Is = NumberRule}) refl refl
 
@@ -108,6 +113,7 @@ exact_limiting =
     (exact_made some_first (exact_skip (kind.Keyword word.Limit ∷ []) refl (exact_both (exact_integer {ends = []}) (λ limit. exact_offset) (λ limit. follows_offset))))
     (exact_nothing (None, None)) (begins_made begins_skip) (follows_nothing refl))
 
+-- LIMIT or nothing may follow ORDER BY
 follows_limiting : Follows ordering_ends query_ends LimitingRule
 follows_limiting = follows_same limiting_same (follows_either (follows_begun {kinds = kind.Keyword word.Limit ∷ []} (begins_made begins_skip) refl) (follows_nothing refl))
 
@@ -115,6 +121,7 @@ follows_limiting = follows_same limiting_same (follows_either (follows_begun {ki
 abbrev Listing : {A : Type 0} → TokenKind → Rule A → Rule (List A)
 Listing keyword Is = Either (Skipped (keyword ∷ kind.Keyword word.By ∷ []) (λ l xs. Listed (Is l) xs)) (NothingOf [])
 
+-- these are the grammar's
 to_by : {A : Type 0} (keyword : TokenKind) (Is : Rule A) (l : Limits) (xs : List A) (front : List Lexeme) → Listing keyword Is l xs front → By keyword (Is l) xs front
 to_by keyword Is l [] front (inl h) = absurd h.4
 to_by keyword Is l (x ∷ xs) front (inl h) = h
@@ -135,10 +142,12 @@ GroupingWays =
     (Skipped (kind.Keyword word.Group ∷ kind.Keyword word.By ∷ []) (Both (λ l xs. Listed (Expression l) xs) (λ groups. MaybeClause (kind.Keyword word.Having))))
     (NothingOf ([], None))
 
+-- a list that stands there has elements
 some_listed : (l : Limits) (xs : List Expr) (front : List Lexeme) → Listed (Expression l) xs front → xs ≢ []
 some_listed l [] front h none = absurd h
 some_listed l (x ∷ xs) front h none = let bad = none in cc
 
+-- the ways are the grammar's
 to_grouping : (l : Limits) (x : List Expr × Option Expr) (front : List Lexeme) → GroupingWays l x front → GroupingRule l x front
 to_grouping l x front (inl h) =
     let both = h.4 in (
@@ -171,6 +180,7 @@ from_grouping l (x ∷ xs) having front h =
 grouping_same : Same GroupingWays GroupingRule
 grouping_same = record { to = to_grouping; from = λ l x front h. from_grouping l x.0 x.1 front h }
 
+-- GROUP BY may follow WHERE, and ORDER BY may follow GROUP BY, each or nothing
 follows_grouping : Follows filter_ends grouping_ends GroupingRule
 follows_grouping = follows_same grouping_same (follows_either (follows_begun {kinds = kind.Keyword word.Group ∷ []} begins_skip refl) (follows_nothing refl))
 

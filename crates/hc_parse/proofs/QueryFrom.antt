@@ -102,6 +102,7 @@ to_joined value l table front h =
 made_again : (table : FromTable) (joined : Bool) → table.joined ≡ joined → table ≡ table_of joined ((table.name, table.alias), table.on)
 made_again table joined h = ap (λ (b : Bool). table_of b ((table.name, table.alias), table.on)) h
 
+-- what is joined, where there is room, is the next table
 from_joined : (value : List FromTable) (l : Limits) (table : FromTable) (front : List Lexeme) (joined : Bool) → table.joined ≡ joined → suc (length value) ≤ l.tables → Joined l table joined front
     → NextRule value l table front
 from_joined value l table front false is few h =
@@ -124,6 +125,7 @@ to_each value l (x ∷ parts) front few h =
     let others = to_each (pushed value x) l parts h.1 (omega (arith, one.0, length_pushed value x)) h.4 in
     (omega (arith, others.0, length_pushed value x), (h.0, h.1, h.2, one.1, others.1))
 
+-- tables that are joined, where there is room for all, are such parts
 from_each : (value : List FromTable) (l : Limits) (parts : List FromTable) (front : List Lexeme) → length value + length parts ≤ l.tables
     → Each (λ table. Joined l table table.joined) parts front → Parts NextRule pushed value l parts front
 from_each value l [] front few h = h
@@ -147,10 +149,12 @@ to_first l xs front h =
           (refl, none.1, subst (λ (f : List Lexeme). SourceRule l made.0.0 f) (sym (parts.2 ∙ ap (λ (f : List Lexeme). parts.0 ++ f) none.0 ∙ append-nil parts.0)) parts.3),
     )
 
+-- a first table is the list of one
 from_first : (l : Limits) (table : FromTable) (front : List Lexeme) → FirstTable table front → First l (table ∷ []) front
 from_first l table front h =
     (table, refl, (((table.name, table.alias), table.on), made_again table false h.0, (front, [], sym (append-nil front), h.2, (refl, h.1))))
 
+-- the chain of tables is the grammar's list
 to_tables : (l : Limits) (xs : List FromTable) (front : List Lexeme) → Chain l xs front → TablesRule l xs front
 to_tables l xs front h =
     let w = h.3 in
@@ -177,6 +181,7 @@ FromRule needed l xs front = (xs ≡ [] → needed ≡ false) × From l xs front
 abbrev There : Rule (List FromTable)
 There = Skipped (kind.Keyword word.From ∷ []) TablesRule
 
+-- FROM with its tables is the grammar's, where none is needed too
 to_there : (needed : Bool) (l : Limits) (xs : List FromTable) (front : List Lexeme) → There l xs front → FromRule needed l xs front
 to_there needed l [] front h = absurd h.4
 to_there needed l (x ∷ xs) front h = let w = h.4 in ((λ none. absurd (let bad = none in cc)), (w.0, (h.0, h.1, h.2, h.3, w.1)))
@@ -184,6 +189,7 @@ to_there needed l (x ∷ xs) front h = let w = h.4 in ((λ none. absurd (let bad
 from_there : (l : Limits) (x : FromTable) (xs : List FromTable) (front : List Lexeme) → From l (x ∷ xs) front → There l (x ∷ xs) front
 from_there l x xs front h = let w = h.1 in (w.0, w.1, w.2, w.3, (h.0, w.4))
 
+-- the ways of FROM are the grammar's
 to_from : (l : Limits) (xs : List FromTable) (front : List Lexeme) → Either There (NothingOf []) l xs front → FromRule false l xs front
 to_from l xs front (inl h) = to_there false l xs front h
 to_from l xs front (inr h) = subst (λ (ys : List FromTable). FromRule false l ys front) (sym h.1) ((λ none. refl), h.0)
@@ -192,6 +198,7 @@ of_from : (l : Limits) (xs : List FromTable) (front : List Lexeme) → FromRule 
 of_from l [] front h = inr (h.1, refl)
 of_from l (x ∷ xs) front h = inl (from_there l x xs front h.1)
 
+-- where FROM is needed, it stands
 of_needed : (l : Limits) (xs : List FromTable) (front : List Lexeme) → FromRule true l xs front → There l xs front
 of_needed l [] front h = absurd (let bad = h.0 refl in cc)
 of_needed l (x ∷ xs) front h = from_there l x xs front h.1
@@ -228,14 +235,17 @@ exact_only {A} {Is} {ends} {read} kind h begins =
         unexpected_here (Completes Is (λ x. 0)) fail l k tokens rest stop e (s.0, s.1, s.2, omega arith) (λ m j other same. ((Unexpected, other), refl))
 
 module _ (expression_exact : Exact Expression expression_ends expression) where
+  -- the first table is read exactly, where there is room for one
   exact_first : Exact (Roomed First) table_ends (made (λ table. table ∷ []) first_table)
   exact_first =
       exact_roomed
       (exact_made (λ table. table ∷ []) (exact_made (table_of false) (exact_both (exact_source {ends = table_ends} refl) (λ x. exact_nothing None) (λ x. follows_nothing refl))))
 
+  -- a further table has lexemes
   filled : (value : List FromTable) (l : Limits) (x : FromTable) (front : List Lexeme) → NextRule value l x front → front ≡ [] → ⊥
   filled value l x front h = starts_filled joint_kinds front ((begins_next value).starts l x front h)
 
+  -- tables, and FROM with them, are read exactly
   exact_chain_of_tables : Exact Chain (joint_kinds ++ table_ends) tables
   exact_chain_of_tables =
       record {

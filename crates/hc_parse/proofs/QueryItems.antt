@@ -37,6 +37,7 @@ module _ (expression_exact : Exact Expression expression_ends expression) (expre
     (name_star : (l : Limits) (k : ℕ) (a b c : Lexeme) (rest : List Lexeme) → among name_kinds a ≡ true → is kind.Dot b ≡ true → is kind.Star c ≡ true
     → (fault : Stop × List Lexeme) × (expression l k (a ∷ b ∷ c ∷ rest) ≡ Err fault))
     (bad_name : (l : Limits) (k : ℕ) (a : Lexeme) (rest : List Lexeme) → among name_kinds a ≡ true → name_of a ≡ None → (fault : Stop × List Lexeme) × (expression l k (a ∷ rest) ≡ Err fault)) where
+  -- an expression with its alias is read exactly, and begins with one of the kinds of expressions
   exact_one_item : Exact OneRule item_ends one_item
   exact_one_item = exact_made (λ x. choice.One x.0 x.1) (exact_both expression_exact (λ value. exact_maybe_alias refl) (λ value. follows_alias refl refl))
 
@@ -65,6 +66,7 @@ module _ (expression_exact : Exact Expression expression_ends expression) (expre
   other_read : (l : Limits) (k : ℕ) (tokens : List Lexeme) (y : Item × ℕ × List Lexeme) → other_item l k tokens ≡ Ok y → item l k tokens ≡ Ok y
   other_read l k tokens y e = item_by l k tokens false (not_star l k tokens y (begins_all_of tokens) refl e) ∙ e
 
+  -- each item is read
   ways_reach : Reaches HasTable Ways (λ x. 0) item_ends item
   ways_reach l left front rest x at (inl h) after = item_by l (0 + left) (front ++ rest) true (begins_so l x front rest h) ∙ (exact_all_of {ends = item_ends}).reaches l left front rest x at h after
   ways_reach l left front rest x at (inr h) after = other_read l (0 + left) (front ++ rest) (x, left, rest) (exact_other.reaches l left front rest x at h after)
@@ -90,6 +92,7 @@ module _ (expression_exact : Exact Expression expression_ends expression) (expre
         again = λ m j other wider h. other_read m (0 + j) (r.front ++ other) (x, j, other) (r.again m j other wider h);
       }
 
+  -- what is read is an item
   ways_sound : Sounds HasTable Ways (λ x. 0) item
   ways_sound l k left tokens rest x at e = ways_read l k left tokens rest x (begins_all_of tokens) at refl e
 
@@ -183,6 +186,7 @@ module _ (expression_exact : Exact Expression expression_ends expression) (expre
         again = λ m j other fails. other_stuck l k tokens rest stop at h s m j other (begins_all_of (s.front ++ other)) fails refl;
       }
 
+  -- each fault is the first
   ways_stick : Sticks HasTable (Completes Ways (λ x. 0)) item
   ways_stick l k tokens rest stop at e = ways_stuck l k tokens rest stop (begins_all_of tokens) at refl e
 

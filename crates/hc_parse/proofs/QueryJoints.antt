@@ -32,6 +32,7 @@ JointRule l true front = JoinWords front
 abbrev Words : List TokenKind → Bool → Rule Bool
 Words kinds b = Skipped kinds (NothingOf b)
 
+-- CROSS JOIN or JOIN; those or INNER JOIN; those or a comma
 abbrev Crossed : Rule Bool
 Crossed = Either (Words (kind.Keyword word.Cross ∷ kind.Keyword word.Join ∷ []) true) (Words (kind.Keyword word.Join ∷ []) true)
 
@@ -45,6 +46,7 @@ Ways = Either (Words (kind.Comma ∷ []) false) Joins
 words_of : (kinds : List TokenKind) (b c : Bool) (l : Limits) (front : List Lexeme) → Words kinds b l c front → (c ≡ b) × Kinds kinds front
 words_of kinds b c l front h = (h.4.1, subst (λ (f : List Lexeme). Kinds kinds f) (sym (h.2 ∙ ap (λ (f : List Lexeme). h.0 ++ f) h.4.0 ∙ append-nil h.0)) h.3)
 
+-- and the other way
 of_words : (kinds : List TokenKind) (b : Bool) (l : Limits) (front : List Lexeme) → Kinds kinds front → Words kinds b l b front
 of_words kinds b l front h = (front, [], sym (append-nil front), h, (refl, refl))
 
@@ -54,11 +56,13 @@ two_words k front h =
     let two = kinds_of_two k (kind.Keyword word.Join) front h in
     (two.0 ∷ [], two.1 ∷ [], two.2, ap (λ x. x ∷ []) two.3, ap (λ x. x ∷ []) two.4)
 
+-- and the other way
 words_two : (k : TokenKind) (before behind : List Lexeme) → Kind k before → Kind (kind.Keyword word.Join) behind → Kinds (k ∷ kind.Keyword word.Join ∷ []) (before ++ behind)
 words_two k [] behind h join = absurd (cc)
 words_two k (t ∷ []) behind h join = ap (λ (ks : List TokenKind). t.kind ∷ ks) join ∙ ap (λ (ks : List TokenKind). ks ++ kind.Keyword word.Join ∷ []) h
 words_two k (t ∷ u ∷ before) behind h join = absurd (cc)
 
+-- the ways are the grammar's
 to_joint : (l : Limits) (b : Bool) (front : List Lexeme) → Ways l b front → JointRule l b front
 to_joint l b front (inl h) = let words = words_of (kind.Comma ∷ []) false b l front h in subst (λ (c : Bool). JointRule l c front) (sym words.0) words.1
 to_joint l b front (inr (inl h)) =
@@ -87,6 +91,7 @@ from_joint l true front (before, behind, is, inr cross, join) =
 joint_same : Same Ways JointRule
 joint_same = record { to = to_joint; from = from_joint }
 
+-- what each of these ways begins with
 begins_crossed : Begins (kind.Keyword word.Cross ∷ kind.Keyword word.Join ∷ []) Crossed
 begins_crossed = begins_either begins_skip begins_skip
 
@@ -139,6 +144,7 @@ pub record IsHalf (t : Lexeme) : Type 0 where
   pub of_kind : (t.kind ≡ kind.Keyword word.Inner) ⊎ (t.kind ≡ kind.Keyword word.Cross)
   pub reads : (l : Limits) (k : ℕ) (tokens : List Lexeme) → joint l k (t ∷ tokens) ≡ skip (kind.Keyword word.Join ∷ []) (nothing true) l k tokens
 
+-- what is read by CROSS, by INNER and by a comma, where the word stands or not
 abbrev by_cross : Bool → Limits → ℕ → Lexeme → List Lexeme → Read Bool
 by_cross b l k t tokens =
     if b then skip (kind.Keyword word.Cross ∷ kind.Keyword word.Join ∷ []) (nothing true) l k (t ∷ tokens) else skip (kind.Keyword word.Join ∷ []) (nothing true) l k (t ∷ tokens)

@@ -26,6 +26,7 @@ use Rattle.hc_parse.proofs.Failing.{IsFault, made_fails, both_fails}
 use Rattle.hc_parse.proofs.QueryJoints.{JointRule, IsWhole, IsHalf, first_word, first_skipped}
 use Rattle.hc_parse.proofs.QueryTables.{NextRule, without_room, exact_joined, next_sticks}
 
+-- a lexeme of no name's kind is no name
 no_name_by : (t : Lexeme) (plain quoted : Bool) → is kind.Name t ≡ plain → is kind.QuotedName t ≡ quoted → (plain || (quoted || false)) ≡ false → name_of t ≡ None
 no_name_by t true quoted p q none = absurd (cc)
 no_name_by t false true p q none = absurd (cc)
@@ -46,6 +47,7 @@ no_table_by : (l : Limits) (k : ℕ) (tokens : List Lexeme) (b : Bool) → head_
 no_table_by l k tokens true h = ((NoTable, tokens), no_table_is l k tokens true h)
 no_table_by l k tokens false h = ((Unexpected, tokens), no_table_is l k tokens false h)
 
+-- where there is no room, no table is read
 no_table_fails : (l : Limits) (k : ℕ) (tokens : List Lexeme) → IsFault (no_table l k tokens)
 no_table_fails l k tokens = no_table_by l k tokens (head_is (among name_kinds) tokens) refl
 
@@ -55,6 +57,7 @@ joined_fails joined l k tokens none =
     made_fails (table_of joined) (both source (λ x. if joined then clause (kind.Keyword word.On) else nothing None)) l k tokens
     (both_fails source (λ x. if joined then clause (kind.Keyword word.On) else nothing None) l k tokens (both_fails name (λ table. maybe_alias) l k tokens (name_fails l k tokens none)))
 
+-- the same, whether there is room or not
 within_fails_by : (count : ℕ) (joined : Bool) (l : Limits) (k : ℕ) (tokens : List Lexeme) (b : Bool) → nat_lt count l.tables ≡ b → head_is (among name_kinds) tokens ≡ false
     → IsFault (table_within count joined l k tokens)
 within_fails_by count joined l k tokens true room none =
@@ -71,6 +74,7 @@ module _ (expression_exact : Exact Expression expression_ends expression) (befor
   abbrev Begun : Prefix
   Begun = OrNone (Completes (NextRule before) (λ x. 0))
 
+  -- the reader of a further table stops so
   abbrev Stuck : Limits → ℕ → List Lexeme → Stop → List Lexeme → Type 0
   Stuck l k tokens stop rest = IsStuck Begun (next_table before) l k tokens stop rest
 
@@ -184,10 +188,12 @@ module _ (expression_exact : Exact Expression expression_ends expression) (befor
   abbrev HalfKind : Lexeme → Type 0
   HalfKind t = (t.kind ≡ kind.Keyword word.Inner) ⊎ (t.kind ≡ kind.Keyword word.Cross)
 
+  -- INNER or CROSS with JOIN behind it joins a table
   half_words : (t u : Lexeme) (m : Limits) → HalfKind t → u.kind ≡ kind.Keyword word.Join → JointRule m true (t ∷ u ∷ [])
   half_words t u m (inl inner) join = (t ∷ [], u ∷ [], refl, inl (inr (ap (λ k. k ∷ []) inner)), ap (λ k. k ∷ []) join)
   half_words t u m (inr cross) join = (t ∷ [], u ∷ [], refl, inr (ap (λ k. k ∷ []) cross), ap (λ k. k ∷ []) join)
 
+  -- the first of the two is a joint, and so are both
   half_joint : (t : Lexeme) → HalfKind t → Joint (t ∷ [])
   half_joint t (inl inner) = inr (inr (inl (ap (λ k. k ∷ []) inner)))
   half_joint t (inr cross) = inr (inr (inr (inl (ap (λ k. k ∷ []) cross))))
@@ -206,6 +212,7 @@ module _ (expression_exact : Exact Expression expression_ends expression) (befor
       (λ r. and_then (and_then r (go_on m)) last)
       (half.reads m j other ∙ ap (λ b. (let r : Read Bool = if b then skip [] (nothing true) m j (drop 1 other) else Err (Unexpected, other) in r)) missing)
 
+  -- behind INNER or CROSS the fault is the first, where JOIN is missing and where it stands
   half_missing : (l : Limits) (k : ℕ) (t : Lexeme) (tokens rest : List Lexeme) (stop : Stop) → nat_lt (length before) l.tables ≡ false → IsHalf t → head_is (is (kind.Keyword word.Join)) tokens ≡ false
       → next_table before l k (t ∷ tokens) ≡ Err (stop, rest) → Stuck l k (t ∷ tokens) stop rest
   half_missing l k t tokens rest stop none half missing e =

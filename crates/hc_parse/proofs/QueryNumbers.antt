@@ -19,6 +19,7 @@ use Rattle.hc_parse.proofs.Exact.{Exact, Begins, Same, exact_same, exact_skip, e
 use Rattle.hc_parse.proofs.ExactStarts.{begins_skip, follows_begun}
 use Rattle.hc_parse.proofs.ExactOptions.{exact_one}
 
+-- an integer with its sign
 abbrev pub NumberRule : Rule ℤ
 NumberRule l x front = Number x front
 
@@ -29,6 +30,7 @@ negative_has lexeme x e =
     let h = has_by lexeme negative_of (nat_le n (2 ^ 63)) (is (kind.Integer 0) lexeme && nat_le n (2 ^ 63)) x refl e in
     (n, h.0, h.1, leb-true n (2 ^ 63) h.2)
 
+-- an integer behind a minus is read, up to 2^63
 negative_is : (lexeme : Lexeme) (n : ℕ) → lexeme.kind ≡ kind.Integer n → n ≤ 2 ^ 63 → negative lexeme ≡ Some (negative_of n)
 negative_is lexeme n h small =
     ap (λ (k : TokenKind). negative (record { kind = k; text = lexeme.text })) h ∙ ap (λ t. if t then Some (negative_of n) else None) (le-leb n (2 ^ 63) small)
@@ -40,10 +42,12 @@ Ways = Either (Skipped (kind.Minus ∷ []) (OneOf negative)) (OneOf integer_of)
 two_kinds : (n : ℕ) (t u : Lexeme) → t.kind ≡ kind.Minus → u.kind ≡ kind.Integer n → Kinds (kind.Minus ∷ kind.Integer n ∷ []) (t ∷ u ∷ [])
 two_kinds n t u minus integer = ap (λ k. k ∷ u.kind ∷ []) minus ∙ ap (λ k. kind.Minus ∷ k ∷ []) integer
 
+-- a minus and an integer are a number
 behind_minus : (n : ℕ) (front : List Lexeme) → n ≤ 2 ^ 63 → Kinds (kind.Minus ∷ kind.Integer n ∷ []) front → Number (negative_of n) front
 behind_minus zero front small h = inr (refl, h)
 behind_minus (suc n) front small h = (omega (arith, small), h)
 
+-- the ways are the grammar's
 to_number : (l : Limits) (x : ℤ) (front : List Lexeme) → Ways l x front → Number x front
 to_number l x front (inl h) =
     let minus = kind_of_one kind.Minus h.0 h.3 in

@@ -40,9 +40,11 @@ module _ (expression_exact : Exact Expression expression_ends expression) (expre
       (sym (append_assoc h.0 h.1 rest) ∙ ap (λ (f : List Lexeme). f ++ rest) (sym h.2))
       ((follows_item expression_exact expression_begins name_star bad_name).ended l x h.0 (h.1 ++ rest) h.3 (ends_none (h.1 ++ rest)))
 
+  -- items may follow DISTINCT
   follows_items : Follows (kind.Keyword word.Distinct ∷ []) [] ItemsRule
   follows_items = record { ended = λ l xs front rest h after. follow_distinct l xs front rest h }
 
+  -- items, and a query's body, are read exactly
   exact_items : Exact ItemsRule items_ends (listed item)
   exact_items = exact_listed refl (exact_item expression_exact expression_begins name_star bad_name)
 

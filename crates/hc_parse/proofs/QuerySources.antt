@@ -17,6 +17,7 @@ use Rattle.hc_parse.proofs.ExactStarts.{begins_skip, begins_either, follows_begu
 use Rattle.hc_parse.proofs.ExactOptions.{exact_maybe}
 use Rattle.hc_parse.proofs.ExactNames.{exact_name, begins_name}
 
+-- an alias; an alias or nothing; a table's name with its alias
 abbrev pub AliasRule : Rule (List ℕ)
 AliasRule l x front = Alias x front
 
@@ -34,6 +35,7 @@ alias_kinds = kind.Keyword word.As ∷ name_kinds
 abbrev Ways : Rule (List ℕ)
 Ways = Either (Skipped (kind.Keyword word.As ∷ []) NameRule) NameRule
 
+-- each of the ways is an alias, and each alias is one of them
 to_alias : (l : Limits) (x : List ℕ) (front : List Lexeme) → Ways l x front → Alias x front
 to_alias l x front (inl h) = (h.0, h.1, h.2, inr h.3, h.4)
 to_alias l x front (inr h) = ([], front, refl, inl refl, h)
@@ -46,9 +48,11 @@ from_alias l x front (before, behind, is, inr word, named) = inl (before, behind
 alias_same : Same Ways AliasRule
 alias_same = record { to = to_alias; from = from_alias }
 
+-- it begins with AS or with a name
 begins_alias : Begins alias_kinds AliasRule
 begins_alias = record { starts = λ l x front h. (begins_either (begins_skip {Is = NameRule} {kind = kind.Keyword word.As} {kinds = []}) begins_name).starts l x front (from_alias l x front h) }
 
+-- it is read exactly
 exact_alias : {ends : List TokenKind} → Exact AliasRule ends alias
 exact_alias {ends} =
     exact_same alias_same

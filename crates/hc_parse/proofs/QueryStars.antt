@@ -28,6 +28,7 @@ use Rattle.hc_parse.proofs.ExactNames.{exact_name}
 use Rattle.hc_parse.proofs.Failing.{IsFault, made_fails, both_fails}
 use Rattle.hc_parse.proofs.QuerySources.{MaybeAlias}
 
+-- an item, as the grammar has it
 abbrev pub ItemRule : Rule Item
 ItemRule l x front = ItemPhrase l x front
 
@@ -47,12 +48,15 @@ OneRule = Made (λ x. choice.One x.0 x.1) (Both Expression (λ value. MaybeAlias
 abbrev pub OtherRule : Rule Item
 OtherRule = Either StarRule OneRule
 
+-- the reader of such an item
 abbrev pub other_item : Reader Item
 other_item = either (is kind.Star) (skip (kind.Star ∷ []) (nothing choice.All)) one_item
 
+-- `name.*`, or another item
 abbrev pub Ways : Rule Item
 Ways = Either AllOfRule OtherRule
 
+-- each of the ways is an item, and each item is one of the ways
 to_item : (l : Limits) (x : Item) (front : List Lexeme) → Ways l x front → ItemPhrase l x front
 to_item l x front (inl h) = subst (λ (y : Item). ItemPhrase l y front) (sym h.1) h.2
 to_item l x front (inr (inl h)) =
@@ -102,6 +106,7 @@ pub record IsAllOf (tokens : List Lexeme) : Type 0 where
   pub dotted : is kind.Dot dot ≡ true
   pub starred : is kind.Star star ≡ true
 
+-- where `name.*` stands, its three lexemes do
 pub three_of : (tokens : List Lexeme) → begins_all_of tokens ≡ true → IsAllOf tokens
 three_of [] h = absurd (cc)
 three_of (a ∷ []) h = absurd (cc)
@@ -118,6 +123,7 @@ one_read l k a rest named =
     (λ b. if b then skip (kind.Star ∷ []) (nothing choice.All) l k (a ∷ rest) else one_item l k (a ∷ rest))
     (sym (among_one kind.Star (a ∷ rest)) ∙ apart_from name_kinds (kind.Star ∷ []) a refl named)
 
+-- where a name's kind stands first and no expression is read, no other item is
 pub one_fails : (l : Limits) (k : ℕ) (a : Lexeme) (rest : List Lexeme) → among name_kinds a ≡ true → IsFault (expression l k (a ∷ rest)) → IsFault (other_item l k (a ∷ rest))
 one_fails l k a rest named h =
     stops_as (other_item l k (a ∷ rest)) (one_item l k (a ∷ rest)) (one_read l k a rest named)
@@ -166,6 +172,7 @@ pub record IsTurned (front rest other : List Lexeme) : Type 0 where
   pub dotted : dot.kind ≡ kind.Dot
   pub same : SameHead rest more
 
+-- where `name.*` stands with `other` and not with `rest`, which begins the same, it is so
 pub turned : (front rest other : List Lexeme) → begins_all_of (front ++ other) ≡ true → begins_all_of (front ++ rest) ≡ false → SameHead rest other → IsTurned front rest other
 turned [] rest [] h none same = absurd (cc)
 turned [] rest (a ∷ []) h none same = absurd (cc)

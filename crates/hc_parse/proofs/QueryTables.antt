@@ -75,10 +75,12 @@ pub begins_next : (before : List FromTable) → Begins joint_kinds (NextRule bef
 begins_next before = begins_made (begins_both (WithinRule (length before)) begins_joint)
 
 module _ (expression_exact : Exact Expression expression_ends expression) where
+  -- ON with its condition is read exactly where a table is joined, and nothing is where none is
   exact_on : (joined : Bool) → Exact (OnRule joined) table_ends (if joined then clause (kind.Keyword word.On) else nothing None)
   exact_on true = clause_exact expression_exact (kind.Keyword word.On) table_ends refl refl refl
   exact_on false = exact_nothing None
 
+  -- either may follow a table
   follows_on : (joined : Bool) → Follows alias_kinds table_ends (OnRule joined)
   follows_on true = clause_follows (kind.Keyword word.On) alias_kinds table_ends refl refl
   follows_on false = follows_nothing refl

@@ -7,6 +7,7 @@ use Rattle.std.proofs.lemmas.List.{append-nil}
 use Rattle.std.proofs.lemmas.Str.{IsUtf8-append, IsUtf8-take, IsUtf8-drop, IsCharBoundary-before_ascii, IsCharBoundary-after_ascii}
 use Rattle.hc_parse.specs.Literals.{also, undoubled, unquoted}
 
+-- an option made of another has its value's
 also_some : {A B : Type 0} (f : A → B) (o : Option A) (y : B) → also f o ≡ Some y → (x : A) × (o ≡ Some x) × (f x ≡ y)
 also_some f None y e = absurd (let bad = e in cc)
 also_some f (Some x) y e = (x, refl, (let q = e in cc))
@@ -27,6 +28,7 @@ behind_ascii xs rest q small is =
     subst IsUtf8 (drop-append-add xs (q ∷ rest) 1)
     (IsUtf8-drop (xs ++ q ∷ rest) (length xs + 1) is (IsCharBoundary-after_ascii (xs ++ q ∷ rest) (length xs) is ((at_seam xs rest q).0) here))
 
+-- and what stands up to it
 through_ascii : (xs rest : List ℕ) (q : ℕ) → q < 128 → IsUtf8 (xs ++ q ∷ rest) → IsUtf8 (xs ++ q ∷ [])
 through_ascii xs rest q small is =
     let here : get_or (xs ++ q ∷ rest) (length xs) 0 < 128 = subst (λ b. b < 128) (sym ((at_seam xs rest q).1)) small in
@@ -79,6 +81,7 @@ undoubled_utf8 q small xs (b ∷ c ∷ rest) inner is e =
     (λ i found. undoubled_utf8 q small (xs ++ b ∷ []) (c ∷ rest) i (subst IsUtf8 (sym (append_assoc xs (b ∷ []) (c ∷ rest))) is) found)
     (λ i left found. undoubled_utf8 q small [] rest i left found) e
 
+-- what is found within the quotes of a text is a text
 pub unquoted_utf8 : (q : ℕ) → q < 128 → (text inner : List ℕ) → IsUtf8 text → unquoted q text ≡ Some inner → IsUtf8 inner
 unquoted_utf8 q small [] inner is e = absurd (let bad = e in cc)
 unquoted_utf8 q small (b ∷ rest) inner is e = on (b == q) refl e

@@ -49,16 +49,18 @@ module _ (ends : List TokenKind) (reaches : Reaches HasTable Statement free ends
   deep_by text tokens found levels more has (Err (NoOperatorForNot, rest)) e =
       inr (place_of text (drop (length tokens - length rest) tokens), fault_found ends reaches sounds sticks text tokens NoOperatorForNot rest e)
 
+  -- what is a statement with more levels is one within the limits, or has a fault TooDeep
   pub deep_or_statement : (text : List ℕ) (tokens : List Token) (found : Stmt) (levels : ℕ) → limits.levels ≤ levels → Statement (with_levels levels) found (lexemes_of text tokens)
       → IsStatementOf text tokens found ⊎ ((at : ℕ) × HasFault text tokens (TooDeep at))
   deep_or_statement text tokens found levels more has = deep_by text tokens found levels more has (whole limits 0 (lexemes_of text tokens)) refl
 
-  -- tokens are a statement or have a fault
+  -- what is read of tokens is their statement, or shows their fault
   either_by : (text : List ℕ) (tokens : List Token) (r : Read Stmt) → whole limits 0 (lexemes_of text tokens) ≡ r
       → ((found : Stmt) × IsStatementOf text tokens found) ⊎ ((fault : _) × HasFault text tokens fault)
   either_by text tokens (Ok (x, left, rest)) e = inl (x, statement_found ends reaches sounds sticks text tokens x left rest e)
   either_by text tokens (Err (stop, rest)) e =
       inr (fault_at stop (place_of text (drop (length tokens - length rest) tokens)), fault_found ends reaches sounds sticks text tokens stop rest e)
 
+  -- tokens are a statement or have a fault
   pub statement_or_fault : (text : List ℕ) (tokens : List Token) → ((found : Stmt) × IsStatementOf text tokens found) ⊎ ((fault : _) × HasFault text tokens fault)
   statement_or_fault text tokens = either_by text tokens (whole limits 0 (lexemes_of text tokens)) refl

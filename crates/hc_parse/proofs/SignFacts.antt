@@ -58,18 +58,22 @@ sign_is (sign ∷ signs) lexeme op once (inr h) =
     not_first true e = absurd (cc)
     not_first false e = refl
 
+-- an operator of these begins with one of their kinds
 pub sign_starts : (signs : Signs) (op : BinaryOp) (front : List Lexeme) → Sign signs op front → Starts (sign_kinds signs) front
 sign_starts signs op front h = ap (head_is (among (sign_kinds signs))) h.1 ∙ sign_kind signs h.0 op h.2
 
+-- one operator of these
 abbrev pub SignRule : Signs → Rule BinaryOp
 SignRule signs l op lexemes = Sign signs op lexemes
 
 module _ (At : Limits → Type 0) (signs : Signs) where
+  -- each operator of these is read, where no kind stands twice
   pub sign_reaches : distinct (sign_kinds signs) ≡ true → (ends : List TokenKind) → Reaches At (SignRule signs) (λ op. 0) ends (one (sign_of signs))
   sign_reaches once ends =
       same_reaches At (OneOf (sign_of signs)) (SignRule signs) (λ op. 0) (one (sign_of signs)) ends (λ l op front h. (h.0, h.1, sign_is signs h.0 op once h.2))
       (one_reaches At (λ op. 0) (sign_of signs) (λ op. refl) ends)
 
+  -- what is read is an operator of these
   pub sign_sounds : plain (sign_kinds signs) ≡ true → Sounds At (SignRule signs) (λ op. 0) (one (sign_of signs))
   sign_sounds simple =
       same_sounds At (OneOf (sign_of signs)) (SignRule signs) (λ op. 0) (one (sign_of signs)) (λ l op front h. (h.0, h.1, sign_has signs h.0 op simple h.2))

@@ -24,6 +24,7 @@ pairs (high ∷ low ∷ digits) are even =
     ∙ ap (λ t. t && are_hex_pairs (digits ++ 39 ∷ [])) are.1.0
     ∙ pairs digits are.1.1 (omega (arith, even))
 
+-- a blob's digits are such pairs
 blob_sound : (text : List ℕ) → IsBlob text → are_blob_digits text ≡ true
 blob_sound text h = ap are_blob_digits h.5 ∙ pairs h.1 h.3 h.4
 
@@ -60,6 +61,7 @@ ends_within : (low high : ℕ) (tokens : List Token) → TokensAscend low high t
 ends_within low high [] h = h
 ends_within low high (token ∷ tokens) h = omega (arith, h.0, h.1, ends_within token.to high tokens h.2)
 
+-- the tokens from a place on are sound
 sound_from : (text : List ℕ) (low : ℕ) (tokens : List Token) → TokensAscend low (length text) tokens → TokensAtCharacters text tokens → AreTokens (lexemes_of text tokens) → AreSound text tokens
 sound_from text low [] ascend at are = tt
 sound_from text low (token ∷ tokens) ascend at are =

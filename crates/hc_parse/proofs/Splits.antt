@@ -8,6 +8,7 @@ pub record Longer {A : Type 0} (one rest other behind : List A) : Type 0 where
   pub is : other ≡ one ++ more
   pub left : rest ≡ more ++ behind
 
+-- of two fronts of one list, one goes on from the other
 pub two_fronts : {A : Type 0} (one rest other behind : List A) → one ++ rest ≡ other ++ behind → Longer one rest other behind ⊎ Longer other behind one rest
 two_fronts [] rest other behind e = inl (record { more = other; is = refl; left = e })
 two_fronts (x ∷ one) rest [] behind e = inr (record { more = x ∷ one; is = refl; left = sym e })
@@ -53,6 +54,7 @@ pub record CutMap {A B : Type 0} (f : A → B) (xs : List A) (front rest : List 
   pub front_is : map f one ≡ front
   pub rest_is : map f other ≡ rest
 
+-- wherever what is made of the elements is cut, they are
 pub cut_map : {A B : Type 0} (f : A → B) (xs : List A) (front rest : List B) → map f xs ≡ front ++ rest → CutMap f xs front rest
 cut_map f xs [] rest e = record { one = []; other = xs; is = refl; front_is = refl; rest_is = e }
 cut_map f [] (y ∷ front) rest e = absurd (cc)

@@ -19,6 +19,7 @@ use Rattle.hc_parse.proofs.QueryRead.{exact_query}
 use Rattle.hc_parse.proofs.QueryBodies.{QueryBody, query_same}
 use Rattle.hc_parse.proofs.StatementExact as exact
 
+-- expressions and queries are read exactly
 exact_expression : Exact Expression expression_ends expression
 exact_expression = exact_everywhere Everywhere (λ l. tt) expression_reaches expression_sounds expression_sticks expression_some
 
@@ -32,11 +33,14 @@ exact_queries = exact_query exact_expression begins_expression name_star bad_nam
 abbrev pub statement_ends : List TokenKind
 statement_ends = exact.statement_ends query_ends
 
+-- each statement is read
 pub statement_reaches : Reaches HasTable Statement free statement_ends statement
 statement_reaches = exact.statement_reaches QueryBody query_ends exact_expression query_same exact_queries
 
+-- what is read is a statement
 pub statement_sounds : Sounds HasTable Statement free statement
 statement_sounds = exact.statement_sounds QueryBody query_ends exact_expression query_same exact_queries
 
+-- each fault is the first
 pub statement_sticks : Sticks HasTable (Completes Statement free) statement
 statement_sticks = exact.statement_sticks QueryBody query_ends exact_expression query_same exact_queries

@@ -17,6 +17,7 @@ ends_error : (found : Stmt) (k : ℕ) (tokens rest : List Lexeme) (stop : Stop) 
 ends_error found k [] rest stop e = absurd (cc)
 ends_error found k (t ∷ tokens) rest stop e = let p = err_parts {A = Stmt} Unexpected stop (t ∷ tokens) rest e in (p.0, p.1)
 
+-- so it does again before the same lexeme
 ends_again : (found : Stmt) (k j : ℕ) (tokens other rest : List Lexeme) (stop : Stop) → ends_there found k tokens ≡ Err (stop, rest) → SameHead tokens other
     → (fault : Stop × List Lexeme) × (ends_there found j other ≡ Err fault)
 ends_again found k j [] other rest stop e same = absurd (cc)
@@ -24,6 +25,7 @@ ends_again found k j (t ∷ tokens) [] rest stop e same = absurd same
 ends_again found k j (t ∷ tokens) (u ∷ other) rest stop e same = ((Unexpected, u ∷ other), refl)
 
 module _ (sounds : Sounds HasTable Statement free statement) (sticks : Sticks HasTable (Completes Statement free) statement) where
+  -- a fault in the statement, or behind it, is the first
   in_statement : (l : Limits) (k : ℕ) (tokens rest : List Lexeme) (stop : Stop) → HasTable l → statement l k tokens ≡ Err (stop, rest) → IsStuck (Completes Statement free) whole l k tokens stop rest
   in_statement l k tokens rest stop room e =
       let s = sticks l k tokens rest stop room e in
@@ -48,6 +50,7 @@ module _ (sounds : Sounds HasTable Statement free statement) (sticks : Sticks Ha
             (a.0, ap (λ (i : ℕ). whole m i (r.front ++ other)) (sym (zero-add j)) ∙ ap (λ (x : Read Stmt). and_then x ends_there) (r.again m j other (fails_wider Unexpected l m k j rest other h) head) ∙ a.1);
       }
 
+  -- each fault of the reader of a whole statement is the first
   pub whole_sticks : Sticks HasTable (Completes Statement free) whole
   whole_sticks l k tokens rest stop room e =
       ⊎_elim

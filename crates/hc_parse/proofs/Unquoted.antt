@@ -11,6 +11,7 @@ pub also_some : {A B : Type 0} (f : A → B) (o : Option A) (y : B) → also f o
 also_some f None y e = absurd (cc)
 also_some f (Some x) y e = (x, refl, cc)
 
+-- the values of equal options are equal
 pub some_same : {A : Type 0} (x y : A) → (let o : Option A = Some x in o ≡ Some y) → x ≡ y
 some_same x y e = cc
 
@@ -51,6 +52,7 @@ pub undoubled_is : (quote : ℕ) (text : List ℕ) → undoubled quote (closed_t
 undoubled_is quote [] = ap (λ t. if t then Some [] else None) (eq-eqb quote quote refl)
 undoubled_is quote (b ∷ text) = by_byte quote b text (b == quote) refl (undoubled_is quote text)
 
+-- what was quoted is found again
 pub unquoted_is : (quote : ℕ) (text : List ℕ) → unquoted quote (quoted quote text) ≡ Some text
 unfolding quoted
 unquoted_is quote text = ap (λ t. if t then undoubled quote (closed_text quote text) else None) (eq-eqb quote quote refl) ∙ undoubled_is quote text
@@ -59,10 +61,12 @@ unquoted_is quote text = ap (λ t. if t then undoubled quote (closed_text quote 
 abbrev FoundFor : ℕ → List ℕ → Type 0
 FoundFor quote bytes = (text : List ℕ) → undoubled quote bytes ≡ Some text → bytes ≡ closed_text quote text
 
+-- the last byte is a quote
 last_byte : (quote b : ℕ) (test : Bool) → (b == quote) ≡ test → (text : List ℕ) → (if test then Some [] else None) ≡ Some text → b ∷ [] ≡ closed_text quote text
 last_byte quote b true is text e = ap (λ (x : ℕ). x ∷ []) (eqb-true b quote is) ∙ ap (closed_text quote) (some_same [] text e)
 last_byte quote b false is text e = absurd (cc)
 
+-- two quotes stand for one, and another byte for itself
 a_quote : (quote b c : ℕ) (rest : List ℕ) → FoundFor quote rest → (b == quote) ≡ true → (test : Bool) → (c == quote) ≡ test → (text : List ℕ)
     → (if test then also (λ inner. b ∷ inner) (undoubled quote rest) else None) ≡ Some text → b ∷ c ∷ rest ≡ closed_text quote text
 a_quote quote b c rest ih first true second text e =
@@ -84,16 +88,19 @@ two_bytes quote b c rest ih next false is text e =
     ∙ ap (λ t. ((if t then b ∷ b ∷ [] else b ∷ []) ++ flat_map (doubled quote) h.0) ++ quote ∷ []) (sym is)
     ∙ ap (closed_text quote) (sym h.2)
 
+-- what is found before the closing quote was doubled there
 pub undoubled_has : (quote : ℕ) (bytes : List ℕ) → FoundFor quote bytes
 undoubled_has quote [] text e = absurd (cc)
 undoubled_has quote (b ∷ []) text e = last_byte quote b (b == quote) refl text e
 undoubled_has quote (b ∷ c ∷ rest) text e = two_bytes quote b c rest (undoubled_has quote rest) (undoubled_has quote (c ∷ rest)) (b == quote) refl text e
 
+-- what begins with a quote was quoted
 first_quote : (quote b : ℕ) (rest : List ℕ) (test : Bool) → (b == quote) ≡ test → (text : List ℕ) → (if test then undoubled quote rest else None) ≡ Some text → b ∷ rest ≡ quoted quote text
 unfolding quoted
 first_quote quote b rest true is text e = ap (λ (x : ℕ). x ∷ rest) (eqb-true b quote is) ∙ ap (λ (l : List ℕ). quote ∷ l) (undoubled_has quote rest text e)
 first_quote quote b rest false is text e = absurd (cc)
 
+-- what is found within quotes was quoted there
 pub unquoted_has : (quote : ℕ) (bytes text : List ℕ) → unquoted quote bytes ≡ Some text → bytes ≡ quoted quote text
 unquoted_has quote [] text e = absurd (cc)
 unquoted_has quote (b ∷ rest) text e = first_quote quote b rest (b == quote) refl text e

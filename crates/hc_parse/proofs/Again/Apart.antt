@@ -21,6 +21,7 @@ words_of lexemes = map (λ lexeme. lexeme.text) lexemes
 abbrev pub IsApart : Lexeme → Type 0
 IsApart lexeme = IsToken lexeme.kind lexeme.text [] × ((more : List ℕ) → IsToken lexeme.kind lexeme.text (32 ∷ more))
 
+-- each lexeme is a token before the end or a space
 abbrev pub AreApart : List Lexeme → Type 0
 AreApart lexemes = AllByRecursion IsApart lexemes
 
@@ -38,6 +39,7 @@ abbrev pieces_of : List Lexeme → Pieces
 pieces_of [] = []
 pieces_of (lexeme ∷ lexemes) = space ∷ piece_of lexeme ∷ pieces_of lexemes
 
+-- a space is blank
 one_space : (rest : List ℕ) → IsBlank (32 ∷ []) rest
 unfolding class_of
 one_space rest = inl (32, refl, refl)

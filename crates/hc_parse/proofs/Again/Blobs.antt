@@ -14,9 +14,11 @@ use Rattle.hc_parse.specs.Lexemes.{SpellsBytes, IsBlobOf, IsLiteral}
 use Rattle.hc_parse.specs.Phrases.{One}
 use Rattle.hc_parse.proofs.Again.Written.{Written, one_word}
 
+-- each is below 256
 abbrev pub AreBytes : List ℕ → Type 0
 AreBytes bytes = AllByRecursion (λ b. b < 256) bytes
 
+-- a hexadecimal digit is below 16, and each number below 16 has its digit
 hex_value : (c : ℕ) → is_ascii_hexdigit c ≡ true → digit_value c < 16
 hex_value c is = grind (arith, nat_tests)
 
@@ -26,6 +28,7 @@ digit_is_hex d small = grind (arith, nat_tests)
 digit_means : (d : ℕ) → d < 16 → digit_value (digit d) ≡ d
 digit_means d small = grind (arith, nat_tests)
 
+-- the halves of a byte are below 16, and make it
 high_half : (b : ℕ) → b < 256 → b / 16 < 16
 high_half b small = omega arith
 
@@ -40,10 +43,12 @@ are_hex : (bytes : List ℕ) → AreBytes bytes → IsRun run.Blob (flat_map byt
 are_hex [] are = tt
 are_hex (b ∷ bytes) are = (digit_is_hex (b / 16) (high_half b are.0), (digit_is_hex (b % 16) (low_half b), are_hex bytes are.1))
 
+-- they are an even number
 are_even : (bytes : List ℕ) → length (flat_map byte_digits bytes) % 2 ≡ 0
 are_even [] = refl
 are_even (b ∷ bytes) = omega (arith, are_even bytes)
 
+-- they spell the bytes
 spell : (bytes : List ℕ) → AreBytes bytes → SpellsBytes (flat_map byte_digits bytes) bytes
 spell [] are = refl
 spell (b ∷ bytes) are =
@@ -52,6 +57,7 @@ spell (b ∷ bytes) are =
     let value : b ≡ 16 * digit_value (digit (b / 16)) + digit_value (digit (b % 16)) = omega (arith, high, low, halves b) in
     (digit (b / 16), digit (b % 16), flat_map byte_digits bytes, refl, value, spell bytes are.1)
 
+-- a blob's word is a blob, and of these bytes
 is_blob : (bytes : List ℕ) → AreBytes bytes → IsBlob (blob_word bytes)
 unfolding blob_word
 is_blob bytes are = (88, flat_map byte_digits bytes, inr refl, are_hex bytes are, are_even bytes, refl)
@@ -65,6 +71,7 @@ pub blob : (bytes : List ℕ) → AreBytes bytes → Written (blob_word bytes �
 blob bytes are = one_word {P = λ lexeme. IsLiteral lexeme (Blob bytes)} kind.Blob (blob_word bytes)
     (is_blob bytes are, λ more. is_blob bytes are) (refl, is_blob_of bytes are)
 
+-- what hexadecimal digits spell is bytes
 spelled_bytes : (digits bytes : List ℕ) → IsRun run.Blob digits → SpellsBytes digits bytes → AreBytes bytes
 spelled_bytes digits [] hex spells = tt
 spelled_bytes digits (b ∷ bytes) hex spells =

@@ -26,6 +26,7 @@ binary_given signs operand left tail a lexemes all is =
 
 -- With what stands within written, each level is.
 module _ (Room : Type 0) (Within : Place → Expr → List Lexeme → Type 0) (within : (place : Place) (tree : Expr) → Gives (Within place tree) (IsWritten tree)) where
+  -- a list in parentheses is written, and so is an operand
   arguments : (list : List Expr) → Gives (rule.Arguments Room Within list) (Written (listed (map expression_words list)) (λ n. Listed (Nested n Whole) list))
   arguments list lexemes all is =
       second (first (listed_given expression_words (λ tree n. Nested n Whole tree) (λ tree l ok h. placed_within Whole tree (within Whole tree l ok h)) list)) lexemes all is.1
@@ -37,12 +38,14 @@ module _ (Room : Type 0) (Within : Place → Expr → List Lexeme → Type 0) (w
   primary_given tree lexemes all (inr (inr (inr (inl is)))) = subst IsWritten (sym is.1) (primary.call_all is.0)
   primary_given tree lexemes all (inr (inr (inr (inr is)))) = second (first (within Whole tree)) lexemes all is.1
 
+  -- an operand with its sign is written
   unary : (tree : Expr) → Gives (rule.Unary Room Within tree) (IsWritten tree)
   unary tree lexemes all (inl is) = subst IsWritten (sym is.0) primary.least
   unary tree lexemes all (inr (inl is)) = subst IsWritten (sym is.1) (primary.minus is.0 (second (within Signed is.0) lexemes all is.2.1))
   unary tree lexemes all (inr (inr (inl is))) = subst IsWritten (sym is.1) (primary.plus is.0 (second (within Signed is.0) lexemes all is.2.1))
   unary tree lexemes all (inr (inr (inr is))) = primary_given tree lexemes all is
 
+  -- what stands at the levels of `||`, `*`, `+` and `<` is written
   concatenation : (tree : Expr) → Gives (rule.Concatenation Room Within tree) (IsWritten tree)
   concatenation tree = chain IsWritten unary (binary_given rule.concat_signs unary) tree
 
@@ -55,6 +58,7 @@ module _ (Room : Type 0) (Within : Place → Expr → List Lexeme → Type 0) (w
   order : (tree : Expr) → Gives (rule.Order Room Within tree) (IsWritten tree)
   order tree = chain IsWritten sum (binary_given rule.order_signs sum) tree
 
+  -- an operand is written with a test behind it, or with an operator like `=`
   tested : (left : Expr) (tail : Tail) → IsWritten left → Gives (rule.TestTail Room Within tail) (IsWritten (applied left tail))
   tested left (Binary o right) a lexemes all is = absurd is
   tested left (In is_negated list) a lexemes all is = test.one_of is_negated left list a (second (second (arguments list)) lexemes all is)
@@ -69,6 +73,7 @@ module _ (Room : Type 0) (Within : Place → Expr → List Lexeme → Type 0) (w
       (binary left is.1 a (second (second (order is.1)) lexemes all is.3) (if is.0 then op.IsNot else op.Is))
   compared left tail a lexemes all (inr (inr is)) = tested left tail a lexemes all is
 
+  -- what stands at the levels of `=`, NOT, AND and OR is written
   equality : (tree : Expr) → Gives (rule.Equality Room Within tree) (IsWritten tree)
   equality tree = chain IsWritten order compared tree
 
@@ -82,6 +87,7 @@ module _ (Room : Type 0) (Within : Place → Expr → List Lexeme → Type 0) (w
   disjunction : (tree : Expr) → Gives (rule.Disjunction Room Within tree) (IsWritten tree)
   disjunction tree = chain IsWritten conjunction (binary_given rule.or_signs conjunction) tree
 
+  -- what stands at a place is written
   at : (place : Place) (tree : Expr) → Gives (rule.At Room Within place tree) (IsWritten tree)
   at Whole tree = disjunction tree
   at Negation tree = negated tree

@@ -13,6 +13,7 @@ use Rattle.hc_parse.proofs.Again.Slices.{slice_behind}
 abbrev pub IsSomeToken : Lexeme → Type 0
 IsSomeToken lexeme = (rest : List ℕ) × IsToken lexeme.kind lexeme.text rest
 
+-- each lexeme is such a token
 abbrev pub AreTokens : List Lexeme → Type 0
 AreTokens lexemes = AllByRecursion IsSomeToken lexemes
 

@@ -68,6 +68,7 @@ spelled word.Update = codes "UPDATE"
 spelled word.Values = codes "VALUES"
 spelled word.Where = codes "WHERE"
 
+-- a keyword's letters are found as it
 is_keyword : (k : Keyword) → keyword_of (spelled k) ≡ Some k
 unfolding keyword_of table
 is_keyword word.And = refl
@@ -127,6 +128,7 @@ is_keyword word.Where = refl
 abbrev IsLetters : List ℕ → Type 0
 IsLetters text = Begins (λ b. class_of b ≡ Letter) text × IsRun run.Name text
 
+-- they are letters
 are_letters : (k : Keyword) → IsLetters (spelled k)
 unfolding class_of
 are_letters word.And = (refl, (refl, (refl, (refl, tt))))
@@ -182,6 +184,7 @@ are_letters word.Update = (refl, (refl, (refl, (refl, (refl, (refl, (refl, tt)))
 are_letters word.Values = (refl, (refl, (refl, (refl, (refl, (refl, (refl, tt)))))))
 are_letters word.Where = (refl, (refl, (refl, (refl, (refl, (refl, tt))))))
 
+-- a quote is no part of a name
 no_quote : (b : ℕ) → is_in run.Name b ≡ true → b ≡ 39 → ⊥
 unfolding class_of
 no_quote b is same = absurd (let bad : is_in run.Name 39 ≡ true = subst (λ c. is_in run.Name c ≡ true) same is in cc)
@@ -200,6 +203,7 @@ no_blob_at_space [] more is blob = is.0
 no_blob_at_space (b ∷ []) more is blob = absurd (let bad : 32 ≡ 39 = second b 32 blob.0 more blob.1 blob.3 in omega (arith, bad))
 no_blob_at_space (b ∷ c ∷ bytes) more is blob = no_quote c is.1.1.0 (second b c blob.0 (bytes ++ 32 ∷ more) blob.1 blob.3)
 
+-- letters are a word before the end or a space
 word_at_end : (text : List ℕ) → IsLetters text → IsWord text []
 word_at_end text is = (is.0, is.1, (λ b. b), no_blob_at_end text is)
 

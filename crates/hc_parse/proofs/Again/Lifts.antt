@@ -32,6 +32,7 @@ as_sign signs op kind among lexemes is =
 
 -- From an operand to each level, and from each level to the loosest one.
 module _ (Room : Type 0) (Within : Place → Expr → List Lexeme → Type 0) where
+  -- an operand alone is a concatenation, a product, a sum, and stands at the level of `<`
   pub to_concatenation : (tree : Expr) (lexemes : List Lexeme) → rule.Unary Room Within tree lexemes → rule.Concatenation Room Within tree lexemes
   to_concatenation tree lexemes is = alone tree lexemes is
 
@@ -44,9 +45,11 @@ module _ (Room : Type 0) (Within : Place → Expr → List Lexeme → Type 0) wh
   pub to_order : (tree : Expr) (lexemes : List Lexeme) → rule.Unary Room Within tree lexemes → rule.Order Room Within tree lexemes
   to_order tree lexemes is = alone tree lexemes (to_sum tree lexemes is)
 
+  -- it stands at the level of NOT
   pub to_negated : (tree : Expr) (lexemes : List Lexeme) → rule.Unary Room Within tree lexemes → rule.Negated Room Within tree lexemes
   to_negated tree lexemes is = inr (alone tree lexemes (to_order tree lexemes is))
 
+  -- what stands at the level of NOT, of `=` or of `<` is an expression
   pub from_negated : (tree : Expr) (lexemes : List Lexeme) → rule.Negated Room Within tree lexemes → rule.Disjunction Room Within tree lexemes
   from_negated tree lexemes is = alone tree lexemes (alone tree lexemes is)
 
@@ -56,6 +59,7 @@ module _ (Room : Type 0) (Within : Place → Expr → List Lexeme → Type 0) wh
   pub from_order : (tree : Expr) (lexemes : List Lexeme) → rule.Order Room Within tree lexemes → rule.Disjunction Room Within tree lexemes
   from_order tree lexemes is = from_equality tree lexemes (alone tree lexemes is)
 
+  -- a sum, a product or a concatenation is an expression
   pub from_sum : (tree : Expr) (lexemes : List Lexeme) → rule.Sum Room Within tree lexemes → rule.Disjunction Room Within tree lexemes
   from_sum tree lexemes is = from_order tree lexemes (alone tree lexemes is)
 

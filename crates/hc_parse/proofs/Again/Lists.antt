@@ -18,6 +18,7 @@ pub each_written : {A : Type 0} (f : A → Words) (P : A → Leveled) (xs : List
 each_written f P [] are = nothing
 each_written f P (x ∷ xs) are = both are.0 (each_written f P xs are.1)
 
+-- each with a comma before it
 others_written : {A : Type 0} (f : A → Words) (P : A → Leveled) (xs : List A) → AreWritten f P xs
     → Written (flat_map (λ other. codes "," ∷ other) (map f xs)) (λ n. Each (λ x. Kind kind.Comma ⨾ P x n) xs)
 others_written f P [] are = nothing

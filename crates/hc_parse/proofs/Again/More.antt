@@ -47,6 +47,7 @@ tail_kept signs f tail lexemes is = (is.0, is.1, is.2, both_kept (kept _) (f is.
 
 -- With room where there was room, and with what stood within, each level keeps what it has.
 module _ (Room Wide : Type 0) (room : Room → Wide) (Within Further : Place → Expr → List Lexeme → Type 0) (within : (place : Place) (tree : Expr) → Keeps (Within place tree) (Further place tree)) where
+  -- arguments, an operand, and one with its sign
   arguments : (list : List Expr) → Keeps (rule.Arguments Room Within list) (rule.Arguments Wide Further list)
   arguments list lexemes is = (room is.0, both_kept (kept _) (both_kept (listed_kept (within Whole) list) (kept _)) lexemes is.1)
 
@@ -63,6 +64,7 @@ module _ (Room Wide : Type 0) (room : Room → Wide) (Within Further : Place →
   unary tree lexemes (inr (inr (inl is))) = inr (inr (inl (is.0, is.1, (room is.2.0, both_kept (kept _) (within Signed is.0) lexemes is.2.1))))
   unary tree lexemes (inr (inr (inr is))) = inr (inr (inr (primary tree lexemes is)))
 
+  -- the levels of `||`, `*`, `+` and `<`
   concatenation : (tree : Expr) → Keeps (rule.Concatenation Room Within tree) (rule.Concatenation Wide Further tree)
   concatenation tree = chain_kept unary (tail_kept rule.concat_signs unary) tree
 
@@ -75,6 +77,7 @@ module _ (Room Wide : Type 0) (room : Room → Wide) (Within Further : Place →
   order : (tree : Expr) → Keeps (rule.Order Room Within tree) (rule.Order Wide Further tree)
   order tree = chain_kept sum (tail_kept rule.order_signs sum) tree
 
+  -- a test, and an operator like `=` with its right operand
   test : (tail : Tail) → Keeps (rule.TestTail Room Within tail) (rule.TestTail Wide Further tail)
   test (Binary op right) lexemes is = is
   test (In is_negated list) lexemes is = both_kept (kept _) (both_kept (kept _) (arguments list)) lexemes is
@@ -86,6 +89,7 @@ module _ (Room Wide : Type 0) (room : Room → Wide) (Within Further : Place →
   compared tail lexemes (inr (inl is)) = inr (inl (is.0, is.1, is.2, both_kept (kept _) (both_kept (kept _) (order is.1)) lexemes is.3))
   compared tail lexemes (inr (inr is)) = inr (inr (test tail lexemes is))
 
+  -- the levels of NOT and AND, and each place
   negated : (tree : Expr) → Keeps (rule.Negated Room Within tree) (rule.Negated Wide Further tree)
   negated tree lexemes (inl is) = inl (is.0, is.1, (room is.2.0, both_kept (kept _) (within Negation is.0) lexemes is.2.1))
   negated tree lexemes (inr is) = inr (chain_kept order compared tree lexemes is)

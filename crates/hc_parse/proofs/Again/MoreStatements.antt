@@ -26,6 +26,7 @@ by_kept keyword f [] lexemes is = is
 by_kept keyword f (x ∷ xs) lexemes is = both_kept (kept _) (listed_kept f (x ∷ xs)) lexemes is
 
 module _ (given further : Limits) (wider : Wider given further) where
+  -- the same of a clause, an item and a term
   clause_kept : (keyword : TokenKind) (value : Option Expr) → Keeps (Maybe (Clause given keyword) value) (Maybe (Clause further keyword) value)
   clause_kept keyword = maybe_kept (λ tree. both_kept (kept _) (expression_kept given further wider tree))
 
@@ -37,6 +38,7 @@ module _ (given further : Limits) (wider : Wider given further) where
   term_kept : (term : Term) → Keeps (TermPhrase given term) (TermPhrase further term)
   term_kept term lexemes is = both_kept (expression_kept given further wider term.value) (kept _) lexemes is
 
+  -- of a further table, and of FROM
   joined_kept : (table : FromTable) (joined : Bool) → Keeps (Joined given table joined) (Joined further table joined)
   joined_kept table false lexemes is = is
   joined_kept table true lexemes is = both_kept (kept _) (both_kept (kept _) (clause_kept (kind.Keyword word.On) table.on)) lexemes is
@@ -48,6 +50,7 @@ module _ (given further : Limits) (wider : Wider given further) where
       let more : length (table ∷ tables) ≤ further.tables = omega (arith, few, wider.2) in
       (more, both_kept (kept _) (both_kept (kept _) (each_kept (λ t. joined_kept t t.joined) tables)) lexemes is.1)
 
+  -- of a query
   query_kept : (query : Select) → Keeps (Query given query) (Query further query)
   query_kept query lexemes is = (
     is.0,
@@ -56,6 +59,7 @@ module _ (given further : Limits) (wider : Wider given further) where
         (both_kept (by_kept (kind.Keyword word.Order) term_kept query.order) (kept _)))))))) lexemes is.1,
   )
 
+  -- of a row, and of a column that is set
   row_kept : (row : ExprRow) → Keeps (Row given row) (Row further row)
   row_kept row lexemes is = both_kept (kept _) (both_kept (listed_kept (expression_kept given further wider) row.values) (kept _)) lexemes is
 

@@ -10,6 +10,7 @@ use Rattle.hc_parse.specs.Phrases.{One, Name}
 use Rattle.hc_parse.proofs.Again.Written.{Written, one_word}
 use Rattle.hc_parse.proofs.Again.Signs.{not_before_space}
 
+-- what is quoted is a quoted token
 is_quoted : (quote : ℕ) (inner rest : List ℕ) → ¬ BeginsWith quote rest → IsQuoted quote (quoted quote inner) rest
 unfolding quoted
 is_quoted quote inner rest ends = (inner, refl, ends)

@@ -13,6 +13,7 @@ use Rattle.hc_lex.specs.Tokens.{IsDigits, BeginsSpoiler, value_behind, value_of}
 use Rattle.hc_parse.specs.Phrases.{Kind}
 use Rattle.hc_parse.proofs.Again.Written.{Written, kind_word}
 
+-- a digit is one for the tokens, and digits are a run
 is_digit : (c : ℕ) → digit_value c < 10 → is_ascii_digit c ≡ true
 is_digit c small = let range = digit_from_value c small in grind (arith, nat_tests)
 
@@ -20,6 +21,7 @@ are_digits : (digits : List ℕ) → AllDigits 10 digits → IsRun run.Number di
 are_digits [] all = tt
 are_digits (c ∷ digits) all = (is_digit c all.0, are_digits digits all.1)
 
+-- the value of a token's digits is that of the numeral
 same_value : (digits : List ℕ) (high : ℕ) → AllDigits 10 digits → value_behind high digits ≡ digits_value_after 10 high digits
 same_value [] high all = refl
 same_value (c ∷ digits) high all =
@@ -31,15 +33,18 @@ not_empty digits some none = let bad : 0 < 0 = subst (λ (l : List ℕ). 0 < len
 
 -- A number that a token may have.
 module _ (m : ℕ) (fits : m ≤ 2 ^ 63) where
+  -- a number's decimal digits are a numeral, and spell it
   numeral : IsNumeral 10 (decimal m) × (digits_value 10 (decimal m) ≡ m)
   numeral = decimal_is_IsNumeral m (omega (arith, fits))
 
   spells : m ≡ value_of (decimal m)
   spells = sym (same_value (decimal m) 0 numeral.0.1 ∙ numeral.1)
 
+  -- they are a whole number's where no digit follows
   digits_before : (rest : List ℕ) → ¬ GoesOn run.Number rest → IsDigits (decimal m) rest
   digits_before rest ends = (not_empty (decimal m) numeral.0.0, are_digits (decimal m) numeral.0.1, ends)
 
+  -- a space is no digit, and neither it nor the end spoils a number
   no_digit : (more : List ℕ) → ¬ GoesOn run.Number (32 ∷ more)
   no_digit more bad = absurd (let clash : false ≡ true = bad in cc)
 

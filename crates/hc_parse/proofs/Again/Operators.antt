@@ -35,6 +35,7 @@ module _ (left right : Expr) (a : IsWritten left) (b : IsWritten right) where
   abbrev OrderAt : ℕ → Expr → List Lexeme → Type 0
   OrderAt n = rule.Order (HasRoom n) (WithinAt n)
 
+  -- OR and AND
   disjunction : Whole_of op.Or
   disjunction = seen_as (λ n l h. lift.with_tail left (Binary op.Or right) l h)
       (both (seen_as (λ n l h. lift.alone left l (lift.to_negated (HasRoom n) (WithinAt n) left l h)) a)
@@ -53,6 +54,7 @@ module _ (left right : Expr) (a : IsWritten left) (b : IsWritten right) where
   equality o k word among = seen_as (λ n l h. lift.from_equality (HasRoom n) (WithinAt n) (expr.Binary o left right) l (lift.with_tail left (Binary o right) l h))
       (both (ordered left a) (seen_as (λ n l h. inl h) (sign_tail equality_signs o k OrderAt right word among (ordered right b))))
 
+  -- IS and IS NOT
   is : Whole_of op.Is
   is = seen_as (λ n l h. lift.from_equality (HasRoom n) (WithinAt n) (expr.Binary op.Is left right) l (lift.with_tail left (Binary op.Is right) l h))
       (both (ordered left a) (seen_as (λ n l h. inr (inl (false, right, refl, h))) (both (keyword word.Is) (both nothing (ordered right b)))))
@@ -61,6 +63,7 @@ module _ (left right : Expr) (a : IsWritten left) (b : IsWritten right) where
   is_not = seen_as (λ n l h. lift.from_equality (HasRoom n) (WithinAt n) (expr.Binary op.IsNot left right) l (lift.with_tail left (Binary op.IsNot right) l h))
       (both (ordered left a) (seen_as (λ n l h. inr (inl (true, right, refl, h))) (both (keyword word.Is) (both (keyword word.Not) (ordered right b)))))
 
+  -- those like `<`, like `+` and like `*`
   order : (o : BinaryOp) (k : TokenKind) {text : List ℕ} → IsWord text k → IsOneOf k o order_signs
       → Written (expression_words left ++ (text ∷ expression_words right)) (PlaceAt Whole (expr.Binary o left right))
   order o k word among = seen_as (λ n l h. lift.from_order (HasRoom n) (WithinAt n) (expr.Binary o left right) l (lift.with_tail left (Binary o right) l h))
@@ -79,6 +82,7 @@ module _ (left right : Expr) (a : IsWritten left) (b : IsWritten right) where
       (both (seen_as (λ n l h. lift.to_concatenation (HasRoom n) (WithinAt n) left l h) a)
       (sign_tail product_signs o k (λ n. rule.Concatenation (HasRoom n) (WithinAt n)) right word among (seen_as (λ n l h. lift.to_concatenation (HasRoom n) (WithinAt n) right l h) b)))
 
+  -- `||`
   concatenation : Whole_of op.Concat
   concatenation = seen_as (λ n l h. lift.from_concatenation (HasRoom n) (WithinAt n) (expr.Binary op.Concat left right) l (lift.with_tail left (Binary op.Concat right) l h))
       (both a (sign_tail concat_signs op.Concat kind.DoubleBar (λ n. rule.Unary (HasRoom n) (WithinAt n)) right sign.double_bar (inl (refl, refl)) b))

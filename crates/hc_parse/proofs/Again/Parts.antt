@@ -12,6 +12,7 @@ use Rattle.hc_parse.proofs.Again.Given.{AreTokens}
 abbrev pub Gives : (List Lexeme → Type 0) → Type 0 → Type 0
 Gives P R = (lexemes : List Lexeme) → AreTokens lexemes → P lexemes → R
 
+-- of tokens, a front and what stands behind it are tokens
 front_tokens : (xs ys : List Lexeme) → AreTokens (xs ++ ys) → AreTokens xs
 front_tokens [] ys all = tt
 front_tokens (x ∷ xs) ys all = (all.0, front_tokens xs ys all.1)
@@ -42,6 +43,7 @@ each f (x ∷ xs) lexemes all is = pair (f x) (each f xs) lexemes all is
 -- A property of operands that each tail keeps.
 module _ {Operand : Expr → List Lexeme → Type 0} {IsTail : Tail → List Lexeme → Type 0} (R : Expr → Type 0)
     (operand : (tree : Expr) → Gives (Operand tree) (R tree)) (tail : (left : Expr) (t : Tail) → R left → Gives (IsTail t) (R (applied left t))) where
+  -- tails keep it, behind an operand that has it
   tails_behind : (left : Expr) (tails : List Tail) → R left → Gives (Each IsTail tails) (R (folded applied left tails))
   tails_behind left [] r lexemes all is = r
   tails_behind left (t ∷ tails) r lexemes all is =

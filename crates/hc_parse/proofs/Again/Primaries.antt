@@ -42,6 +42,7 @@ negative_words m = refl
 abbrev Literal : Value → Type 0
 Literal value = Written (value_words value) (λ n. One (λ lexeme. IsLiteral lexeme value))
 
+-- a blob among the tokens is written, and so is each literal
 literal_blob : (bytes : List ℕ) → Gives (One (λ lexeme. IsLiteral lexeme (Blob bytes))) (Literal (Blob bytes))
 literal_blob bytes lexemes all is =
     let token = (subst AreTokens is.1 all).0 in
@@ -69,6 +70,7 @@ least =
     same_words (value_tree (Int (negsuc (2 ^ 63 - 1))) ∙ negative_words (2 ^ 63 - 1))
     (opened (PlaceAt Signed tree) kind.Minus (codes "-") sign.minus (number (2 ^ 63) (omega arith)) (λ n l h. inl (refl, h)))
 
+-- a table's name and a dot, or nothing
 qualifier : (table : Option (List ℕ)) → Written (qualifier_words table) (λ n. Maybe (λ t. Name t ⨾ Kind kind.Dot) table)
 qualifier None = nothing
 qualifier (Some table) = both (name table) sign.dot
@@ -83,6 +85,7 @@ pub call : (letters : List ℕ) (args : List Expr) → Written (listed (map expr
 call letters args a = same_words (call_tree letters args) (seen_as
     (λ n l h. inr (inr (inr (inr (inr (inl (letters, args, refl, h))))))) (both (name letters) (arguments args a)))
 
+-- `*` in parentheses
 star_argument : Written (enclosed (codes "*" ∷ [])) (λ n. Opening (HasRoom n) kind.LeftParen (Kinds (kind.Star ∷ kind.RightParen ∷ [])))
 star_argument = opened (λ n. Opening (HasRoom n) kind.LeftParen (Kinds (kind.Star ∷ kind.RightParen ∷ []))) kind.LeftParen (codes "(") sign.left_paren
     (kinds_both (kind.Star ∷ []) (kind.RightParen ∷ []) sign.star sign.right_paren) (λ n l h. h)
@@ -92,6 +95,7 @@ pub call_all : (letters : List ℕ) → IsWritten (expr.CallAll letters)
 call_all letters = same_words (call_all_tree letters) (seen_as
     (λ n l h. inr (inr (inr (inr (inr (inr (inl (letters, refl, h)))))))) (both (name letters) star_argument))
 
+-- what may stand behind a sign is an expression
 placed_as : {w : Words} (tree : Expr) → Written w (PlaceAt Signed tree) → Written w (PlaceAt Whole tree)
 placed_as tree a = seen_as (λ n l h. to_place (HasRoom n) (WithinAt n) Whole tree l h) a
 

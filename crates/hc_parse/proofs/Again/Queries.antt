@@ -28,6 +28,7 @@ use Rattle.hc_parse.proofs.Again.Numbers.{number}
 use Rattle.hc_parse.proofs.Again.Primaries.{positive_words, negative_words}
 use Rattle.hc_parse.proofs.Again.Expressions.{expression, within}
 
+-- an alias, and a table's name with its alias
 alias_written : (letters : Option (List ℕ)) → Written (alias_words letters) (λ n. Maybe Alias letters)
 alias_written None = nothing
 alias_written (Some letters) = both (seen_as (λ n l h. inr h) (keyword word.As)) (name letters)
@@ -35,10 +36,12 @@ alias_written (Some letters) = both (seen_as (λ n l h. inr h) (keyword word.As)
 source : (table : FromTable) → Written (source_words table) (λ n. Source table)
 source table = both (name table.name) (alias_written table.alias)
 
+-- a direction
 direction : (descends : Bool) → Written ((if descends then codes "DESC" else codes "ASC") ∷ []) (λ n. Direction descends)
 direction true = desc
 direction false = seen_as (λ n l h. inr h) asc
 
+-- an integer with its sign
 number_given : (m : ℤ) → Gives (Number m) (Written (integer_words m) (λ n. Number m))
 number_given (pos m) lexemes all is =
     let small : m < 2 ^ 63 = ⊎_elim (λ (h : (m < 2 ^ 63) × _). h.0) (λ (h : (m ≡ 0) × _). let none : m ≡ 0 = h.0 in omega (arith, none)) is in
@@ -79,6 +82,7 @@ module _ (given : Limits) where
   by_given k f Q give (x ∷ xs) lexemes all is =
       both (kinds_both (kind.Keyword k ∷ []) (kind.Keyword word.By ∷ []) (keyword k) (keyword word.By)) (second (listed_given f Q give (x ∷ xs)) lexemes all is)
 
+  -- an item, and a term of ORDER BY
   item_given : (x : Item) → Gives (ItemPhrase given x) (Written (item_words x) (λ n. ItemPhrase (within given n) x))
   item_given item.All lexemes all is = sign.star
   item_given (item.AllOf table) lexemes all is = both (name table) (kinds_both (kind.Dot ∷ []) (kind.Star ∷ []) sign.dot sign.star)
@@ -87,6 +91,7 @@ module _ (given : Limits) where
   term_given : (term : Term) → Gives (TermPhrase given term) (Written (term_words term) (λ n. TermPhrase (within given n) term))
   term_given term lexemes all is = both (first (expression given term.value) lexemes all is) (direction term.desc)
 
+  -- a further table, by whether it is joined
   joined_by : (table : FromTable) (joined : Bool) → Gives (Joined given table joined)
       (Written ((if joined then codes "JOIN" else codes ",") ∷ source_words table ++ clause_words (codes "ON") table.on) (λ n. Joined (within given n) table joined))
   joined_by table false lexemes all is =
@@ -96,6 +101,7 @@ module _ (given : Limits) where
   joined_by table true lexemes all is =
       both (both (seen_as (λ n l h. inl (inl h)) nothing) (keyword word.Join)) (both (source table) (second (second (clause_given word.On table.on)) lexemes all is))
 
+  -- the first table, and FROM
   first_given : (table : FromTable) → Gives (FirstTable table) (Written (source_words table) (λ n. FirstTable table))
   first_given table lexemes all is =
       let not_joined : table.joined ≡ false = is.0 in

@@ -7,6 +7,7 @@ taken : {A : Type 0} (xs ys : List A) → take (length xs) (xs ++ ys) ≡ xs
 taken [] ys = refl
 taken (x ∷ xs) ys = ap (λ l. x ∷ l) (taken xs ys)
 
+-- a list without a front
 dropped : {A : Type 0} (xs ys : List A) → drop (length xs) (xs ++ ys) ≡ ys
 dropped [] ys = refl
 dropped (x ∷ xs) ys = dropped xs ys

@@ -31,6 +31,7 @@ use Rattle.hc_parse.proofs.Again.Names.{name}
 use Rattle.hc_parse.proofs.Again.Expressions.{expression, within}
 use Rattle.hc_parse.proofs.Again.Queries.{clause_given, query_given}
 
+-- names in parentheses, or nothing
 names_given : (names : List (List ℕ)) → Gives (Names names) (Written (name_list names) (λ n. Names names))
 names_given names lexemes all is =
     enclosed_written (second (first (listed_given (λ letters. name_word letters ∷ []) (λ letters n. Name letters) (λ letters l ok h. name letters) names)) lexemes all is)
@@ -38,6 +39,7 @@ names_given names lexemes all is =
 columns_given : (columns : Option (List (List ℕ))) → Gives (Maybe Names columns) (Written (columns_words columns) (λ n. Maybe Names columns))
 columns_given = maybe_given columns_words (λ names n. Names names) refl names_given
 
+-- a row, and a column that is set
 row_given : (given : Limits) (row : ExprRow) → Gives (Row given row) (Written (row_words row) (λ n. Row (within given n) row))
 row_given given row lexemes all is =
     enclosed_written (second (first (listed_given expression_words (λ x n. Expression (within given n) x) (expression given) row.values)) lexemes all is)
@@ -45,12 +47,14 @@ row_given given row lexemes all is =
 set_given : (given : Limits) (set : Assign) → Gives (Set given set) (Written (assign_words set) (λ n. Set (within given n) set))
 set_given given set lexemes all is = both (name set.column) (both sign.equal (second (second (expression given set.value)) lexemes all is))
 
+-- a column's type
 type_given : (class : Class) → Gives (ColumnType class) (Written (type_word class ∷ []) (λ n. ColumnType class))
 type_given class.Int lexemes all is = keyword word.Integer
 type_given class.Text lexemes all is = keyword word.Text
 type_given class.Blob lexemes all is = keyword word.Blob
 type_given class.Null lexemes all is = absurd is
 
+-- PRIMARY KEY, a column's rule, and a column with its rules
 primary_key : Written (codes "PRIMARY" ∷ codes "KEY" ∷ []) (λ n. Kinds (kind.Keyword word.Primary ∷ kind.Keyword word.Key ∷ []))
 primary_key = kinds_both (kind.Keyword word.Primary ∷ []) (kind.Keyword word.Key ∷ []) (keyword word.Primary) (keyword word.Key)
 
@@ -64,6 +68,7 @@ column_given column lexemes all is =
     let rules = second (second (each (λ rule l ok h. column_rule rule) column.rules)) lexemes all is in
     both (name column.name) (both (second (first (type_given column.class)) lexemes all is) (each_written column_rule_words (λ rule n. RuleOfColumn rule) column.rules rules))
 
+-- a table's rule
 key_words : (primary : Bool) → Written (if primary then codes "PRIMARY" ∷ codes "KEY" ∷ [] else codes "UNIQUE" ∷ []) (λ n. KeyWords primary)
 key_words true = primary_key
 key_words false = keyword word.Unique
@@ -71,6 +76,7 @@ key_words false = keyword word.Unique
 rule_given : (rule : KeyRule) → Gives (RuleOfTable rule) (Written (key_rule_words rule) (λ n. RuleOfTable rule))
 rule_given rule lexemes all is = both (key_words rule.primary) (second (names_given rule.columns) lexemes all is)
 
+-- IF NOT EXISTS and IF EXISTS, or nothing
 not_exists : (maybe : Bool) → Written (words.if_not_exists maybe) (λ n. If maybe if_not_exists)
 not_exists maybe = written_if maybe if_not_exists
     (kinds_both (kind.Keyword word.If ∷ []) (kind.Keyword word.Not ∷ kind.Keyword word.Exists ∷ []) (keyword word.If)
@@ -80,6 +86,7 @@ exists : (maybe : Bool) → Written (words.if_exists maybe) (λ n. If maybe if_e
 exists maybe = written_if maybe if_exists
     (kinds_both (kind.Keyword word.If ∷ []) (kind.Keyword word.Exists ∷ []) (keyword word.If) (keyword word.Exists))
 
+-- the words of CREATE TABLE and of CREATE INDEX, each part behind the other
 table_words : (maybe : Bool) (letters : List ℕ) (body : Words)
     → codes "CREATE" ∷ codes "TABLE" ∷ words.if_not_exists maybe ++ name_word letters ∷ enclosed body ++ codes "STRICT" ∷ []
     ≡ codes "CREATE" ∷ codes "TABLE" ∷ (words.if_not_exists maybe ++ (name_word letters ∷ (enclosed body ++ codes "STRICT" ∷ [])))
@@ -97,6 +104,7 @@ module _ (given : Limits) where
   abbrev pub Words_of : Stmt → Type 0
   Words_of statement = Written (first_word statement ∷ other_words statement) (λ n. Statement (within given n) statement)
 
+  -- INSERT, UPDATE, DELETE, CREATE TABLE and CREATE INDEX
   insert : (table : List ℕ) (columns : Option (List (List ℕ))) (rows : List ExprRow) → Gives (Statement given (stmt.Insert table columns rows)) (Words_of (stmt.Insert table columns rows))
   insert table columns rows lexemes all is =
       let listed_rows = second (second (second (second (listed_given row_words (λ row n. Row (within given n) row) (row_given given) rows)))) lexemes all is in

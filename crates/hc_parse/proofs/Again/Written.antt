@@ -19,6 +19,7 @@ pub record Written (words : Words) (P : Leveled) : Type 0 where
   pub apart : AreApart lexemes
   pub has : (n : ℕ) → least ≤ n → P n lexemes
 
+-- the words of lexemes one behind the other, and that they are tokens
 words_behind : (xs ys : List Lexeme) → words_of (xs ++ ys) ≡ words_of xs ++ words_of ys
 words_behind [] ys = refl
 words_behind (x ∷ xs) ys = ap (λ l. x.text ∷ l) (words_behind xs ys)
@@ -70,6 +71,7 @@ kind_word kind text apart = record {
   has = λ n h. refl;
 }
 
+-- kinds one behind the other
 kinds_behind : (xs ys : List Lexeme) (kinds others : List TokenKind) → Kinds kinds xs → Kinds others ys → Kinds (kinds ++ others) (xs ++ ys)
 kinds_behind [] ys kinds others a b = subst (λ l. Kinds (l ++ others) ys) a b
 kinds_behind (x ∷ xs) ys kinds others a b =
@@ -85,6 +87,7 @@ pub written_if : {w : Words} (flag : Bool) (kinds : List TokenKind) → Written 
 written_if true kinds a = a
 written_if false kinds a = nothing
 
+-- what a level has from some number of levels on, is had with it from one more on
 deepened : (lexemes : List Lexeme) (least : ℕ) (P Q : Leveled) (kind : TokenKind) → ((n : ℕ) (l : List Lexeme) → Opening ⊤ kind (P n) l → Q (suc n) l)
     → ((n : ℕ) → least ≤ n → (Kind kind ⨾ P n) lexemes) → (n : ℕ) → suc least ≤ n → Q n lexemes
 deepened lexemes least P Q kind deeper has zero h = absurd (let bad : suc least ≤ 0 = h in omega (arith, bad))
