@@ -1,5 +1,6 @@
 -- Operators of one level: the reader of an operator and its operand, and that of their chain.
 use Rattle.std.proofs.Common.{◌≡◌, inl, inr, ◌==◌, ◌||◌, not, Bool, true, false, List, [], ◌∷◌, ◌++◌, refl, sym, subst, arith}
+use Rattle.std.proofs.lemmas.Bool.{and_parts, not-true}
 use Rattle.hc_lex.specs.declared.token.TokenKind.{TokenKind}
 use Rattle.hc_ast.specs.declared.operator.BinaryOp.{BinaryOp}
 use Rattle.hc_ast.specs.declared.expression.Expr.{Expr}
@@ -14,7 +15,7 @@ use Rattle.hc_parse.specs.Literals.{sign_of, sign_kinds}
 use Rattle.hc_parse.specs.ReadingExpressions.{binary_tail, binary_chain}
 use Rattle.hc_parse.proofs.Steps.{deeper_same}
 use Rattle.hc_parse.proofs.KindNumbers.{kind_is}
-use Rattle.hc_parse.proofs.KindLists.{each_of, turned, ends_none, starts_behind}
+use Rattle.hc_parse.proofs.KindLists.{ends_none, starts_behind}
 use Rattle.hc_parse.proofs.Charged.{negation_kind, charged_stuck_plain}
 use Rattle.hc_parse.proofs.SignFacts.{distinct, SignRule, sign_reaches, sign_sounds, sign_sticks, sign_starts, sign_is}
 use Rattle.hc_parse.proofs.ExpressionCosts.{tail_operators}
@@ -37,8 +38,8 @@ pub record IsTold (signs : Signs) : Type 0 where
 sign_found : (signs : Signs) (t : Lexeme) → plain (sign_kinds signs) ≡ true → among (sign_kinds signs) t ≡ true → (op : BinaryOp) × IsOneOf t.kind op signs
 sign_found [] t simple begun = absurd (let bad = begun in cc)
 sign_found (sign ∷ signs) t simple begun =
-    let parts = each_of (not (kind_number sign.0 == 2)) (plain (sign_kinds signs)) simple in
-    by_kind (is sign.0 t) refl begun (turned (kind_number sign.0 == 2) parts.0) (λ further. sign_found signs t parts.1 further)
+    let parts = and_parts (not (kind_number sign.0 == 2)) (plain (sign_kinds signs)) simple in
+    by_kind (is sign.0 t) refl begun (not-true (kind_number sign.0 == 2) parts.0) (λ further. sign_found signs t parts.1 further)
   where
     by_kind : (b : Bool) → is sign.0 t ≡ b → (b || among (sign_kinds signs) t) ≡ true → (kind_number sign.0 == 2) ≡ false
         → (among (sign_kinds signs) t ≡ true → (op : BinaryOp) × IsOneOf t.kind op signs) → (op : BinaryOp) × IsOneOf t.kind op (sign ∷ signs)

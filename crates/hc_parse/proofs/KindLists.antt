@@ -1,21 +1,11 @@
 -- Lists of kinds, and what stands first.
 use Rattle.std.proofs.Common.{◌≡◌, ap, ◌∙◌, ◌==◌, ◌||◌, ◌&&◌, not, Bool, true, false, cond, List, [], ◌∷◌, ◌++◌, refl, sym}
 use Rattle.std.proofs.Math.Bool.{or-false}
-use Rattle.std.proofs.lemmas.Bool.{eqb-true, eq-eqb, or_parts}
+use Rattle.std.proofs.lemmas.Bool.{eqb-true, eq-eqb, or_parts, and_parts, not-true}
 use Rattle.hc_lex.specs.declared.token.TokenKind.{TokenKind}
 use Rattle.hc_parse.specs.Lexemes.{Lexeme}
 use Rattle.hc_parse.specs.Kinds.{kind_number, is, among, head_is, Ends, Starts}
 use Rattle.hc_parse.specs.Rules.{has_kind, apart, included}
-
--- where both hold, each does
-pub each_of : (a b : Bool) → (a && b) ≡ true → (a ≡ true) × (b ≡ true)
-each_of true b h = (refl, h)
-each_of false b h = absurd (cc)
-
--- what is denied does not hold
-pub turned : (a : Bool) → not a ≡ true → a ≡ false
-turned false h = refl
-turned true h = absurd (cc)
 
 -- nothing holds and does not
 differ : (a : Bool) → a ≡ true → a ≡ false → ⊥
@@ -43,7 +33,7 @@ not_of (other ∷ others) kind lexeme h none =
 none_of : (ends others : List TokenKind) (lexeme : Lexeme) → included ends others ≡ true → among others lexeme ≡ false → among ends lexeme ≡ false
 none_of [] others lexeme h none = refl
 none_of (kind ∷ ends) others lexeme h none =
-    let parts = each_of (has_kind others kind) (included ends others) h in
+    let parts = and_parts (has_kind others kind) (included ends others) h in
     ap (λ b. b || among ends lexeme) (not_of others kind lexeme parts.0 none) ∙ none_of ends others lexeme parts.1 none
 
 -- to be among one kind is to be of it
@@ -99,8 +89,8 @@ apart_by others kind lexeme false rest this h among_them further = further among
 pub apart_from : (kinds others : List TokenKind) (lexeme : Lexeme) → apart kinds others ≡ true → among kinds lexeme ≡ true → among others lexeme ≡ false
 apart_from [] others lexeme h this = absurd (cc)
 apart_from (kind ∷ kinds) others lexeme h this =
-    let parts = each_of (not (has_kind others kind)) (apart kinds others) h in
-    apart_by others kind lexeme (is kind lexeme) (among kinds lexeme) refl (turned (has_kind others kind) parts.0) this (λ g. apart_from kinds others lexeme parts.1 g)
+    let parts = and_parts (not (has_kind others kind)) (apart kinds others) h in
+    apart_by others kind lexeme (is kind lexeme) (among kinds lexeme) refl (not-true (has_kind others kind) parts.0) this (λ g. apart_from kinds others lexeme parts.1 g)
 
 -- where one of the kinds stands first, none of others does
 pub starts_apart : (kinds ends : List TokenKind) (front rest : List Lexeme) → apart kinds ends ≡ true → Starts kinds front → Ends ends (front ++ rest)

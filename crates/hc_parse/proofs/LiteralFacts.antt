@@ -1,7 +1,7 @@
 -- The reader of a literal reads exactly the literals.
 use Rattle.std.proofs.Common.{◌≡◌, ◌∙◌, ap, ℕ, ℤ, pos, negsuc, ◌^◌, ◌<◌, nat_lt, ◌&&◌, List, [], ◌∷◌, Bool, true, false, Option, Some, None, sym, refl, subst, arith}
 use Rattle.std.specs.Prelude.{if◌then◌else◌}
-use Rattle.std.proofs.lemmas.Bool.{eqb-true, ltb-true, lt-ltb}
+use Rattle.std.proofs.lemmas.Bool.{eqb-true, ltb-true, lt-ltb, and_parts}
 use Rattle.hc_lex.specs.declared.token.TokenKind.{TokenKind}
 use Rattle.hc_lex.specs.declared.token.TokenKind.TheVariants as kind
 use Rattle.hc_lex.specs.declared.keyword.Keyword.TheVariants as word
@@ -18,7 +18,6 @@ use Rattle.hc_parse.specs.Rules.{OneOf}
 use Rattle.hc_parse.specs.Literals.{also, unquoted, blob_of, number_of, integer_of, literal_of}
 use Rattle.hc_parse.specs.ReadingExpressions.{literal_kinds}
 use Rattle.hc_parse.proofs.KindNumbers.{kind_is}
-use Rattle.hc_parse.proofs.KindLists.{each_of}
 use Rattle.hc_parse.proofs.Unquoted.{unquoted_is, unquoted_has, also_some, some_same}
 use Rattle.hc_parse.proofs.Simple.{one_reaches, one_sounds, one_sticks}
 use Rattle.hc_parse.proofs.RuleChanges.{same_reaches, same_sounds, same_sticks}
@@ -59,7 +58,7 @@ number_has lexeme t = integer_kind lexeme.kind (eqb-true (kind_number lexeme.kin
 pub has_by : (lexeme : Lexeme) (of : ℕ → ℤ) (small test : Bool) (x : ℤ) → (is (kind.Integer 0) lexeme && small) ≡ test → (if test then Some (of (number_of lexeme.kind)) else None) ≡ Some x
     → (x ≡ of (number_of lexeme.kind)) × (lexeme.kind ≡ kind.Integer (number_of lexeme.kind)) × (small ≡ true)
 has_by lexeme of small true x passes e =
-    let parts = each_of (is (kind.Integer 0) lexeme) small passes in
+    let parts = and_parts (is (kind.Integer 0) lexeme) small passes in
     (sym (some_same (of (number_of lexeme.kind)) x e), number_has lexeme parts.0, parts.1)
 has_by lexeme of small false x passes e = absurd (cc)
 

@@ -1,7 +1,7 @@
 -- A reader of what opens a level: what the rule has is read, what is read the rule has, and a fault is the first.
 use Rattle.std.proofs.Common.{◌≡◌, ◌⊎◌, inl, inr, ⊎_elim, ◌∙◌, ap, ℕ, zero, suc, ◌≤◌, ◌+◌, ◌==◌, ◌||◌, not, Bool, true, false, if◌then◌else◌, List, [], ◌∷◌, ◌++◌, drop, Ok, Err, refl, sym, subst, arith}
 use Rattle.std.proofs.Math.Dec.{eqb-suc-zero}
-use Rattle.std.proofs.lemmas.Bool.{eqb-true}
+use Rattle.std.proofs.lemmas.Bool.{eqb-true, and_parts, not-true}
 use Rattle.hc_lex.specs.declared.token.TokenKind.{TokenKind}
 use Rattle.hc_lex.specs.declared.token.TokenKind.TheVariants.{Keyword}
 use Rattle.hc_lex.specs.declared.keyword.Keyword.TheVariants as word
@@ -16,7 +16,7 @@ use Rattle.hc_parse.specs.Rules.{Opened, plain, included}
 use Rattle.hc_parse.proofs.Steps.{same_test}
 use Rattle.hc_parse.proofs.Lifts.{fails_wider}
 use Rattle.hc_parse.proofs.KindNumbers.{kind_is, is_of_kind}
-use Rattle.hc_parse.proofs.KindLists.{each_of, turned, ends_in}
+use Rattle.hc_parse.proofs.KindLists.{ends_in}
 use Rattle.hc_parse.proofs.Crossing.{raise, lower_raise, raise_lower, lower_wider, goes_within, fails_within}
 use Rattle.hc_parse.proofs.Charged.{stuck_as, negation_kind}
 
@@ -91,7 +91,7 @@ module _ {A : Type 0} (At Within : Limits → Type 0) (kind : TokenKind) (Inner 
     -- a lexeme that opens the level, and what stands in it
     is_opened : (m : Limits) (t : Lexeme) (x : A) (front : List Lexeme) → 1 ≤ m.levels → is kind t ≡ true → Inner (lower m) x front → Opened kind Inner m x (t ∷ front)
     is_opened m t x front some begun has =
-        (has_room m.levels some, (t ∷ [], front, refl, ap (λ k. k ∷ []) (kind_is kind t (turned (kind_number kind == 2) (each_of (not (kind_number kind == 2)) true is_plain).0) begun), has))
+        (has_room m.levels some, (t ∷ [], front, refl, ap (λ k. k ∷ []) (kind_is kind t (not-true (kind_number kind == 2) (and_parts (not (kind_number kind == 2)) true is_plain).0) begun), has))
 
     sound_within : (l : Limits) (k left n : ℕ) (t : Lexeme) (tokens rest : List Lexeme) (x : A) → l.levels ≡ suc n → is kind t ≡ true → IsRead Inner c inner (lower l) k tokens x left rest
         → IsRead (Opened kind Inner) c (opened kind inner) l k (t ∷ tokens) x left rest

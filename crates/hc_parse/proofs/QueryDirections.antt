@@ -1,5 +1,6 @@
 -- ASC, DESC or nothing is read exactly.
 use Rattle.std.proofs.Common.{◌≡◌, ◌∙◌, inl, inr, ap, ℕ, ◌&&◌, Bool, true, false, List, [], ◌∷◌, ◌++◌, length, Some, None, refl, sym, subst, arith}
+use Rattle.std.proofs.lemmas.Bool.{and_parts}
 use Rattle.std.specs.Prelude.{if◌then◌else◌, codes}
 use Rattle.std.specs.Str.{str_eq_ignore_ascii_case, str_to_ascii_lowercase}
 use Rattle.std.proofs.lemmas.Slice.Eq.{bytes_eq-Decides}
@@ -12,7 +13,7 @@ use Rattle.hc_parse.specs.Queries.{PlainName, Direction}
 use Rattle.hc_parse.specs.Reads.{Rule}
 use Rattle.hc_parse.specs.Rules.{NothingOf, Either, OneOf, apart, included}
 use Rattle.hc_parse.specs.ReadingQueries.{is_plain, plain_word, direction}
-use Rattle.hc_parse.proofs.KindLists.{each_of, ends_in, among_one}
+use Rattle.hc_parse.proofs.KindLists.{ends_in, among_one}
 use Rattle.hc_parse.proofs.KindNumbers.{kind_is, is_of_kind}
 use Rattle.hc_parse.proofs.Unquoted.{some_same}
 use Rattle.hc_parse.proofs.Exact.{Exact, Begins, Follows, Same, exact_same, exact_nothing, exact_choice}
@@ -42,7 +43,7 @@ word_is letters value lexeme passes = ap (λ t. if t then Some value else None) 
 -- the test of a word
 plain_has : (letters : List ℕ) (lexeme : Lexeme) → is_plain letters lexeme ≡ true → (lexeme.kind ≡ kind.Name) × (str_eq_ignore_ascii_case letters lexeme.text ≡ true)
 plain_has letters lexeme passes =
-    let parts = each_of (is kind.Name lexeme) (str_eq_ignore_ascii_case letters lexeme.text) passes in
+    let parts = and_parts (is kind.Name lexeme) (str_eq_ignore_ascii_case letters lexeme.text) passes in
     (kind_is kind.Name lexeme refl parts.0, parts.1)
 
 -- a plain name of the letters passes
@@ -139,7 +140,7 @@ begins_word : (letters : List ℕ) (value : Bool) → Begins (kind.Name ∷ []) 
 begins_word letters value =
     record {
       starts = λ l x front h.
-          let named = (each_of (is kind.Name h.0) (str_eq_ignore_ascii_case letters h.0.text) (word_has letters value x h.0 h.2).1).0 in
+          let named = (and_parts (is kind.Name h.0) (str_eq_ignore_ascii_case letters h.0.text) (word_has letters value x h.0 h.2).1).0 in
           subst (λ (f : List Lexeme). Starts (kind.Name ∷ []) f) (sym h.1) (among_one kind.Name (h.0 ∷ []) ∙ named);
     }
 

@@ -1,5 +1,6 @@
 -- `name.*` tells an item from an expression, and where it stands no expression does.
 use Rattle.std.proofs.Common.{◌≡◌, ◌∙◌, inl, inr, ap, ℕ, ◌+◌, ◌&&◌, Bool, true, false, List, [], ◌∷◌, ◌++◌, None, Ok, refl, sym, subst, arith}
+use Rattle.std.proofs.lemmas.Bool.{and_parts}
 use Rattle.std.specs.Prelude.{if◌then◌else◌}
 use Rattle.std.proofs.lemmas.List.{append-nil}
 use Rattle.hc_lex.specs.declared.token.TokenKind.{TokenKind}
@@ -19,7 +20,7 @@ use Rattle.hc_parse.specs.Rules.{NothingOf, Skipped, Both, Made, Either, Closed}
 use Rattle.hc_parse.specs.ReadingExpressions.{name, name_kinds, expression}
 use Rattle.hc_parse.specs.ReadingQueries.{maybe_alias, begins_all_of, all_of, one_item, item}
 use Rattle.hc_parse.proofs.Steps.{stops_as, wider_same, deeper_same}
-use Rattle.hc_parse.proofs.KindLists.{each_of, apart_from, among_one}
+use Rattle.hc_parse.proofs.KindLists.{apart_from, among_one}
 use Rattle.hc_parse.proofs.KindNumbers.{kind_is, is_of_kind}
 use Rattle.hc_parse.proofs.FaultPrefixes.{kinds_of_two}
 use Rattle.hc_parse.proofs.NameFacts.{NameRule, name_starts}
@@ -112,8 +113,8 @@ three_of [] h = absurd (cc)
 three_of (a ∷ []) h = absurd (cc)
 three_of (a ∷ b ∷ []) h = absurd (cc)
 three_of (a ∷ b ∷ c ∷ rest) h =
-    let parts = each_of (among name_kinds a) (is kind.Dot b && is kind.Star c) h in
-    let others = each_of (is kind.Dot b) (is kind.Star c) parts.1 in
+    let parts = and_parts (among name_kinds a) (is kind.Dot b && is kind.Star c) h in
+    let others = and_parts (is kind.Dot b) (is kind.Star c) parts.1 in
     record { table = a; dot = b; star = c; behind = rest; is_split = refl; named = parts.0; dotted = others.0; starred = others.1 }
 
 -- where a name's kind stands first, what is read is an expression
@@ -179,14 +180,14 @@ turned [] rest (a ∷ []) h none same = absurd (cc)
 turned [] rest (a ∷ b ∷ []) h none same = absurd (cc)
 turned [] [] (a ∷ b ∷ c ∷ other) h none same = absurd same
 turned [] (r ∷ rest) (a ∷ b ∷ c ∷ other) h none same =
-    let parts = each_of (among name_kinds a) (is kind.Dot b && is kind.Star c) h in
+    let parts = and_parts (among name_kinds a) (is kind.Dot b && is kind.Star c) h in
     record { table = a; dot = a_dot; behind = b ∷ c ∷ other; more = a ∷ a_dot ∷ a_name ∷ []; is_star = refl; is_column = refl; named = parts.0; dotted = refl; same = same }
 turned (x ∷ []) rest [] h none same = absurd (cc)
 turned (x ∷ []) rest (b ∷ []) h none same = absurd (cc)
 turned (x ∷ []) [] (b ∷ c ∷ other) h none same = absurd same
 turned (x ∷ []) (r ∷ rest) (b ∷ c ∷ other) h none same =
-    let parts = each_of (among name_kinds x) (is kind.Dot b && is kind.Star c) h in
-    let others = each_of (is kind.Dot b) (is kind.Star c) parts.1 in
+    let parts = and_parts (among name_kinds x) (is kind.Dot b && is kind.Star c) h in
+    let others = and_parts (is kind.Dot b) (is kind.Star c) parts.1 in
     record {
       table = x;
       dot = b;

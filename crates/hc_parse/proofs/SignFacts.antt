@@ -1,5 +1,6 @@
 -- The reader of an operator reads exactly its words.
 use Rattle.std.proofs.Common.{◌≡◌, inl, inr, ◌∙◌, ap, ◌==◌, ◌&&◌, ◌||◌, not, List, [], ◌∷◌, Bool, true, false, Some, sym, refl}
+use Rattle.std.proofs.lemmas.Bool.{and_parts, not-true}
 use Rattle.std.specs.Prelude.{if◌then◌else◌}
 use Rattle.hc_lex.specs.declared.token.TokenKind.{TokenKind}
 use Rattle.hc_ast.specs.declared.operator.BinaryOp.{BinaryOp}
@@ -12,7 +13,7 @@ use Rattle.hc_parse.specs.Reads.{Rule, Reaches, Sounds, Sticks, Completes}
 use Rattle.hc_parse.specs.Rules.{OneOf, plain, apart}
 use Rattle.hc_parse.specs.Literals.{sign_of, sign_kinds}
 use Rattle.hc_parse.proofs.KindNumbers.{kind_is, is_of_kind}
-use Rattle.hc_parse.proofs.KindLists.{each_of, turned, apart_from}
+use Rattle.hc_parse.proofs.KindLists.{apart_from}
 use Rattle.hc_parse.proofs.Unquoted.{some_same}
 use Rattle.hc_parse.proofs.Simple.{one_reaches, one_sounds, one_sticks}
 use Rattle.hc_parse.proofs.RuleChanges.{same_reaches, same_sounds, same_sticks}
@@ -26,8 +27,8 @@ distinct (kind ∷ kinds) = apart kinds (kind ∷ []) && distinct kinds
 pub sign_has : (signs : Signs) (lexeme : Lexeme) (op : BinaryOp) → plain (sign_kinds signs) ≡ true → sign_of signs lexeme ≡ Some op → IsOneOf lexeme.kind op signs
 sign_has [] lexeme op simple e = absurd (cc)
 sign_has (sign ∷ signs) lexeme op simple e =
-    let parts = each_of (not (kind_number sign.0 == 2)) (plain (sign_kinds signs)) simple in
-    by_kind sign signs lexeme op (turned (kind_number sign.0 == 2) parts.0) (sign_has signs lexeme op parts.1) (is sign.0 lexeme) refl e
+    let parts = and_parts (not (kind_number sign.0 == 2)) (plain (sign_kinds signs)) simple in
+    by_kind sign signs lexeme op (not-true (kind_number sign.0 == 2) parts.0) (sign_has signs lexeme op parts.1) (is sign.0 lexeme) refl e
   where
     by_kind : (sign : TokenKind × BinaryOp) (signs : Signs) (lexeme : Lexeme) (op : BinaryOp) → (kind_number sign.0 == 2) ≡ false → (sign_of signs lexeme ≡ Some op → IsOneOf lexeme.kind op signs)
         → (test : Bool) → is sign.0 lexeme ≡ test → (if test then Some sign.1 else sign_of signs lexeme) ≡ Some op → IsOneOf lexeme.kind op (sign ∷ signs)
@@ -50,7 +51,7 @@ sign_is [] lexeme op once h = absurd h
 sign_is (sign ∷ signs) lexeme op once (inl h) =
     ap (λ t. if t then Some sign.1 else sign_of signs lexeme) (is_of_kind sign.0 lexeme h.0) ∙ ap (λ (x : BinaryOp). Some x) (sym h.1)
 sign_is (sign ∷ signs) lexeme op once (inr h) =
-    let parts = each_of (apart (sign_kinds signs) (sign.0 ∷ [])) (distinct (sign_kinds signs)) once in
+    let parts = and_parts (apart (sign_kinds signs) (sign.0 ∷ [])) (distinct (sign_kinds signs)) once in
     let other : is sign.0 lexeme ≡ false = not_first (is sign.0 lexeme) (apart_from (sign_kinds signs) (sign.0 ∷ []) lexeme parts.0 (sign_kind signs lexeme op h)) in
     ap (λ t. if t then Some sign.1 else sign_of signs lexeme) other ∙ sign_is signs lexeme op parts.1 h
   where

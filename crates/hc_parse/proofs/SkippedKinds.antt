@@ -1,5 +1,6 @@
 -- Readers of lexemes of certain kinds, before what another reads or behind it.
 use Rattle.std.proofs.Common.{◌≡◌, ap, ◌∙◌, ℕ, ◌+◌, ◌==◌, not, Bool, true, false, cond, List, [], ◌∷◌, ◌++◌, map, drop, Ok, Err, ◌||◌, refl, sym, arith, append_assoc}
+use Rattle.std.proofs.lemmas.Bool.{and_parts, not-true}
 use Rattle.hc_lex.specs.declared.token.TokenKind.{TokenKind}
 use Rattle.hc_parse.specs.Lexemes.{Lexeme}
 use Rattle.hc_parse.specs.Limits.{Limits}
@@ -11,7 +12,6 @@ use Rattle.hc_parse.specs.Rules.{Skipped, plain}
 use Rattle.hc_parse.proofs.Steps.{stops_as, same_test}
 use Rattle.hc_parse.proofs.Lifts.{goes_after}
 use Rattle.hc_parse.proofs.KindNumbers.{kind_is, is_of_kind}
-use Rattle.hc_parse.proofs.KindLists.{each_of, turned}
 use Rattle.hc_parse.proofs.RuleChanges.{sticks_in}
 use Rattle.hc_parse.proofs.Simple.{unexpected_here}
 
@@ -45,7 +45,7 @@ skipped (kind ∷ kinds) read l k (lexeme ∷ front) tokens h =
 
 -- where no kind of a list is that of integers, the first is not, nor is one of the others
 plain_first : (kind : TokenKind) (kinds : List TokenKind) → plain (kind ∷ kinds) ≡ true → ((kind_number kind == 2) ≡ false) × (plain kinds ≡ true)
-plain_first kind kinds h = let parts = each_of (not (kind_number kind == 2)) (plain kinds) h in (turned (kind_number kind == 2) parts.0, parts.1)
+plain_first kind kinds h = let parts = and_parts (not (kind_number kind == 2)) (plain kinds) h in (not-true (kind_number kind == 2) parts.0, parts.1)
 
 module _ {A : Type 0} (At : Limits → Type 0) (Is : Rule A) (cost : A → ℕ) (read : Reader A) where
   -- what stands behind lexemes of the kinds is read
