@@ -1,5 +1,5 @@
 #!/usr/bin/env bash
-# Records against SQLite itself. The tests of hc_record have integers and lists of values with the records
+# Records against SQLite itself. The tests of hc_record, in crates/hc_text_tests, have integers and lists of values with the records
 # that `encode` writes and `decode` reads. SQLite writes the same lists into a table, and the bytes of
 # the record in its database file have to be the same.
 set -u
@@ -12,7 +12,7 @@ fi
 work=$(mktemp -d) || exit 1
 trap 'rm -rf "$work"' EXIT
 
-python3 - "$work/database" crates/hc_record/src/tests.rt <<'PYTHON'
+python3 - "$work/database" crates/hc_text_tests/src/record.rt <<'PYTHON'
 import ast
 import os
 import re
@@ -32,7 +32,7 @@ if len(integers) != 30 or len(rows) != 6:
 
 
 def varint(data, at):
-    """A number and the place behind it, as section 1.6 of fileformat2.html has it."""
+    """A number and the place after it, as section 1.6 of fileformat2.html has it."""
     number = 0
     for k in range(9):
         byte = data[at + k]

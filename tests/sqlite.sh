@@ -1,6 +1,6 @@
 #!/usr/bin/env bash
 # The program against SQLite itself: made scripts with many ids that come again, whose statements SQLite
-# runs as they stand. Its rows, counts and refusals are put into the output form, with the endings that
+# runs as they are. Its rows, counts and refusals are put into the output form, with the endings that
 # this test counts, and the two outputs have to be the same bytes.
 set -u
 cd "$(dirname "$0")/.." || exit 1

@@ -1,5 +1,5 @@
 #!/usr/bin/env bash
-# Statements against SQLite's own parser. The tests of hc_parse have texts with the statement or the fault that each is.
+# Statements against SQLite's own parser. The tests of hc_parse (in hc_text_tests) have texts with the statement or the fault that each is.
 # SQLite has to accept what is accepted there, but for a stated list, and to refuse what is refused, but for
 # another. Names that SQLite does not know are no matter here: its parser comes before them. Expressions and their
 # canonical texts, in which all grouping is written out, have to be the same program to SQLite.
@@ -11,15 +11,16 @@ if ! python3 -c 'import sqlite3' 2>/dev/null; then
     exit 0
 fi
 
-python3 - crates/hc_parse/src/tests.rt <<'PYTHON'
+python3 - crates/hc_text_tests/src/parse/{expressions,statements,faults}.rt <<'PYTHON'
 import ast
 import re
 import sqlite3
 import sys
 
-(path,) = sys.argv[1:]
-with open(path, encoding="utf-8") as file:
-    text = file.read()
+text = ""
+for path in sys.argv[1:]:
+    with open(path, encoding="utf-8") as file:
+        text += file.read()
 literal = r'"((?:[^"\\]|\\.)*)"'
 pairs = []
 groups = []
@@ -28,7 +29,7 @@ for name in ["OPERANDS", "TESTS", "PAIRS", "QUERIES", "CHANGES", "SCHEMAS", "TRA
     found = re.findall(r"\(\s*" + literal + r",\s*" + literal + r",?\s*\)", table)
     wanted = re.search(r"; (\d+)\]", table)
     if not wanted or len(found) != int(wanted.group(1)):
-        sys.exit(f"tests/statements.sh: found {len(found)} pairs of {name} in {path}")
+        sys.exit(f"tests/statements.sh: found {len(found)} pairs of {name} in the tests")
     tuples = [tuple(ast.literal_eval(f'"{part}"') for part in pair) for pair in found]
     pairs += tuples
     if name in ["OPERANDS", "TESTS", "PAIRS"]:
@@ -47,11 +48,11 @@ ONLY_SQLITE = {
     # numbers that SQLite reads as reals
     "SELECT 9223372036854775808", "SELECT -(9223372036854775808)", "SELECT 1 - 9223372036854775808",
     "SELECT + 9223372036854775808", "SELECT a LIMIT 9223372036854775808",
-    # expressions behind LIMIT
+    # expressions after LIMIT
     "SELECT a LIMIT +1", "SELECT a LIMIT 1 + 1",
     # what SQLite's parser leaves to a later step: `*` without FROM, HAVING without GROUP BY, columns without a type
     "SELECT *", "SELECT *, 1 WHERE 1", "SELECT t.*", "SELECT 1 HAVING 1", "CREATE TABLE t (a) STRICT",
-    # ON behind the first table and behind a comma, and more than 8 tables
+    # ON after the first table and after a comma, and more than 8 tables
     "SELECT 1 FROM t ON 1", "SELECT 1 FROM t, u ON 1",
     "SELECT 1 FROM a,b,c,d,e,f,g,h,i", "SELECT 1 FROM a,b,c,d,e,f,g,h JOIN i",
     # a text as a name, UNION, CAST, `==` in SET, and tables that are not STRICT

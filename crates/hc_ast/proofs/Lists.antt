@@ -1,4 +1,4 @@
--- Lists of parts, each written behind a space.
+-- Lists of parts, each written after a space.
 use Rattle.std.proofs.Common.{◌≡◌, ◌∙◌, ap, ℕ, List, [], ◌∷◌, ◌++◌, map, sym, refl, codes, append_assoc, take, length, ◌≤◌}
 use Rattle.std.proofs.lemmas.List.{append-nil, take_all}
 use Rattle.std.proofs.lemmas.List.Concat.{flat_map-append}
@@ -16,7 +16,7 @@ commas f (x ∷ xs) =
     flat_map-append (λ word. 32 ∷ word) (codes "," ∷ f x) (flat_map (λ other. codes "," ∷ other) (map f xs))
     ∙ ap (λ (l : List ℕ). spaced (codes "," ∷ f x) ++ l) (commas f xs)
 
--- a list is its first part, and the others behind commas
+-- a list is its first part, and the others after commas
 pub spaced_listed : {A : Type 0} (f : A → Words) (first : A) (others : List A)
     → spaced (listed (map f (first ∷ others))) ≡ spaced (f first) ++ flat_map (λ x. spaced (codes "," ∷ f x)) others
 spaced_listed f first others =
@@ -54,7 +54,7 @@ loop_written f out mid new values others first n are begun so_far all =
     listed_written f out mid new values others first are begun
     (so_far ∙ ap (λ (l : List _). mid ++ flat_map (λ x. spaced (codes "," ∷ f x)) l) (take_all n others all))
 
--- a text is its first word, and the others each behind a space
+-- a text is its first word, and the others each after a space
 pub text_of_words : (word : List ℕ) (words : Words) → text_of (word ∷ words) ≡ word ++ spaced words
 text_of_words word [] = sym (append-nil word)
 text_of_words word (next ∷ words) = ap (λ (l : List ℕ). word ++ 32 ∷ l) (text_of_words next words)

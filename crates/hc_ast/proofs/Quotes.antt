@@ -4,15 +4,15 @@ use Rattle.std.proofs.lemmas.Bool.Decides.{nat_tests}
 use Rattle.std.proofs.lemmas.List.{append-nil}
 use Rattle.std.proofs.lemmas.List.Concat.{flat_map-append}
 use Rattle.std.proofs.lemmas.Str.{encode_ascii, encodes-append, encodes-chars}
-use Rattle.std.specs.List.{flat_map, AllByRecursion}
-use Rattle.hc_ast.specs.Words.{doubled}
+use Rattle.std.specs.List.{AllByRecursion}
+use Rattle.hc_text.specs.Quotes.{doubled, doubled_one}
 use lib.Utf8.{encode, encodes}
 use lib.Dec.{ltb}
 
 abbrev Differs : ℕ → List ℕ → Type 0
 Differs quote bytes = AllByRecursion (λ b. b ≢ quote) bytes
 
-plain : (quote : ℕ) (bytes : List ℕ) → Differs quote bytes → flat_map (doubled quote) bytes ≡ bytes
+plain : (quote : ℕ) (bytes : List ℕ) → Differs quote bytes → doubled quote bytes ≡ bytes
 plain quote [] d = refl
 plain quote (b ∷ bytes) d = rw (ne_eqb b quote d.0) (ap (λ (l : List ℕ). b ∷ l) (plain quote bytes d.1))
 
@@ -29,7 +29,7 @@ encoded_differs quote c small ne =
     (λ t. ((λ e. omega arith), ((λ e. omega arith), ((λ e. omega arith), tt))))
     (λ f3. ((λ e. omega arith), ((λ e. omega arith), ((λ e. omega arith), ((λ e. omega arith), tt)))))))
 
-doubled_char : (quote c : ℕ) → quote < 128 → (test : Bool) → (c == quote) ≡ test → encodes (cond test (c ∷ c ∷ []) (c ∷ [])) ≡ flat_map (doubled quote) (encode c)
+doubled_char : (quote c : ℕ) → quote < 128 → (test : Bool) → (c == quote) ≡ test → encodes (cond test (c ∷ c ∷ []) (c ∷ [])) ≡ doubled quote (encode c)
 doubled_char quote c small true is =
     let same : c ≡ quote = grind (arith, nat_tests) in
     let ascii : encode c ≡ c ∷ [] = encode_ascii c (omega arith) in
@@ -39,29 +39,29 @@ doubled_char quote c small false is =
     append-nil (encode c) ∙ sym (plain quote (encode c) (encoded_differs quote c small ne))
 
 -- doubled among the characters, and then encoded
-pub doubled_encoded : (quote : ℕ) (cs : List ℕ) → quote < 128 → encodes (flat_map (doubled quote) cs) ≡ flat_map (doubled quote) (encodes cs)
+pub doubled_encoded : (quote : ℕ) (cs : List ℕ) → quote < 128 → encodes (doubled quote cs) ≡ doubled quote (encodes cs)
 doubled_encoded quote [] small = refl
 doubled_encoded quote (c ∷ cs) small =
-    encodes-append (doubled quote c) (flat_map (doubled quote) cs)
-    ∙ ap (λ (l : List ℕ). l ++ encodes (flat_map (doubled quote) cs)) (doubled_char quote c small (c == quote) refl)
-    ∙ ap (λ (l : List ℕ). flat_map (doubled quote) (encode c) ++ l) (doubled_encoded quote cs small)
-    ∙ sym (flat_map-append (doubled quote) (encode c) (encodes cs))
+    encodes-append (doubled_one quote c) (doubled quote cs)
+    ∙ ap (λ (l : List ℕ). l ++ encodes (doubled quote cs)) (doubled_char quote c small (c == quote) refl)
+    ∙ ap (λ (l : List ℕ). doubled quote (encode c) ++ l) (doubled_encoded quote cs small)
+    ∙ sym (flat_map-append (doubled_one quote) (encode c) (encodes cs))
 
 -- one more character is written
-pub one_more : (out old new : List ℕ) (quote c : ℕ) (yielded : List ℕ) → old ≡ out ++ encodes (flat_map (doubled quote) yielded)
-    → new ≡ old ++ encodes (flat_map (doubled quote) (c ∷ [])) → new ≡ out ++ encodes (flat_map (doubled quote) (yielded ++ c ∷ []))
+pub one_more : (out old new : List ℕ) (quote c : ℕ) (yielded : List ℕ) → old ≡ out ++ encodes (doubled quote yielded)
+    → new ≡ old ++ encodes (doubled quote (c ∷ [])) → new ≡ out ++ encodes (doubled quote (yielded ++ c ∷ []))
 one_more out old new quote c yielded so_far step =
     step
-    ∙ ap (λ (l : List ℕ). l ++ encodes (flat_map (doubled quote) (c ∷ []))) so_far
-    ∙ append_assoc out (encodes (flat_map (doubled quote) yielded)) (encodes (flat_map (doubled quote) (c ∷ [])))
-    ∙ ap (λ (l : List ℕ). out ++ l) (sym (ap encodes (flat_map-append (doubled quote) yielded (c ∷ []))
-    ∙ encodes-append (flat_map (doubled quote) yielded) (flat_map (doubled quote) (c ∷ []))))
+    ∙ ap (λ (l : List ℕ). l ++ encodes (doubled quote (c ∷ []))) so_far
+    ∙ append_assoc out (encodes (doubled quote yielded)) (encodes (doubled quote (c ∷ [])))
+    ∙ ap (λ (l : List ℕ). out ++ l) (sym (ap encodes (flat_map-append (doubled_one quote) yielded (c ∷ []))
+    ∙ encodes-append (doubled quote yielded) (doubled quote (c ∷ []))))
 
 -- all characters are written
 pub inner_written : (out new : List ℕ) (quote : ℕ) (text yielded : List ℕ) → quote < 128 → IsUtf8 text
-    → new ≡ out ++ encodes (flat_map (doubled quote) yielded) → yielded ≡ chars text → new ≡ out ++ flat_map (doubled quote) text
+    → new ≡ out ++ encodes (doubled quote yielded) → yielded ≡ chars text → new ≡ out ++ doubled quote text
 inner_written out new quote text yielded small utf8 so_far all =
     so_far
-    ∙ ap (λ (l : List ℕ). out ++ encodes (flat_map (doubled quote) l)) all
+    ∙ ap (λ (l : List ℕ). out ++ encodes (doubled quote l)) all
     ∙ ap (λ (l : List ℕ). out ++ l) (doubled_encoded quote (chars text) small)
-    ∙ ap (λ (l : List ℕ). out ++ flat_map (doubled quote) l) (encodes-chars text utf8)
+    ∙ ap (λ (l : List ℕ). out ++ doubled quote l) (encodes-chars text utf8)

@@ -1,5 +1,5 @@
--- Canonical text: one text for each statement. Keywords are in upper case, each name stands in `"`, and one space
--- stands between two words. Words that may be left out are, but AS and ASC. A rule of our own.
+-- Canonical text: one text for each statement. Keywords are in upper case, each name is in `"`, and one space
+-- is between two words. Words that may be left out are, but AS and ASC. A rule of our own.
 use Rattle.std.specs.Prelude.{ℕ, ℤ, Bool, List, [], ◌∷◌, ◌++◌, if◌then◌else◌, Option, Some, None, codes, map}
 use Rattle.std.specs.List.{flat_map}
 use Rattle.hc_value.specs.declared.storage.Class.{Class}
@@ -50,7 +50,7 @@ item_words (One value alias) = expression_words value ++ alias_words alias
 abbrev pub source_words : FromTable → Words
 source_words table = name_word table.name ∷ alias_words table.alias
 
--- a table behind another one
+-- a table after another one
 abbrev pub joined_words : FromTable → Words
 joined_words table = (if table.joined then codes "JOIN" else codes ",") ∷ source_words table ++ clause_words (codes "ON") table.on
 
@@ -78,7 +78,7 @@ order_words query =
     ++ limit_words (codes "LIMIT") query.limit
     ++ limit_words (codes "OFFSET") query.offset
 
--- a query behind its SELECT
+-- a query after its SELECT
 abbrev pub select_words : Select → Words
 select_words query = rows_words query ++ order_words query
 
@@ -134,7 +134,7 @@ first_word (stmt.RollbackTo name) = codes "ROLLBACK"
 first_word (stmt.Savepoint name) = codes "SAVEPOINT"
 first_word (stmt.Release name) = codes "RELEASE"
 
--- the words behind it
+-- the words after it
 abbrev pub other_words : Stmt → Words
 other_words (stmt.Select query) = select_words query
 other_words (stmt.Insert table columns rows) =

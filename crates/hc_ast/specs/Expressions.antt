@@ -1,4 +1,4 @@
--- Expressions in canonical text: each one with an operator stands in parentheses, so none of them rests on how
+-- Expressions in canonical text: each one with an operator is in parentheses, so none of them depends on how
 -- tightly an operator binds.
 use Rattle.std.specs.Prelude.{ℕ, List, [], ◌∷◌, ◌++◌, Option, Some, None, codes}
 use Rattle.hc_ast.specs.declared.operator.BinaryOp.{BinaryOp}

@@ -1,3 +1,4 @@
 pub mod Canonical
 pub mod Expressions
+pub mod Kinds
 pub mod Words

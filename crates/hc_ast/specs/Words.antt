@@ -1,10 +1,12 @@
 -- Words: the pieces of canonical text, each of which is one token of SQL.
 --
 -- What is written for a quote within quotes, and for a blob, is after SQLite's lang_expr.html and
--- lang_keywords.html. That blobs have upper-case digits, that each name stands in quotes, and that a minus is a
+-- lang_keywords.html. That blobs have upper-case digits, that each name is in quotes, and that a minus is a
 -- word of its own are rules of our own.
-use Rattle.std.specs.Prelude.{ℕ, ℤ, pos, List, [], ◌∷◌, ◌++◌, ◌+◌, ◌/◌, ◌%◌, ◌==◌, Bool, nat_lt, int_lt, nat_abs, if◌then◌else◌, codes, decimal, map}
+use Rattle.std.specs.Prelude.{ℕ, ℤ, pos, List, [], ◌∷◌, ◌++◌, Bool, int_lt, nat_abs, if◌then◌else◌, codes, decimal, map}
 use Rattle.std.specs.List.{flat_map, join_with_byte}
+use Rattle.hc_text.specs.Digits.{byte_digits}
+use Rattle.hc_text.specs.Quotes.{quoted}
 use Rattle.hc_value.specs.declared.value.Value.{Value}
 use Rattle.hc_value.specs.declared.value.Value.TheVariants.{Null, Int, Text, Blob}
 
@@ -12,7 +14,7 @@ use Rattle.hc_value.specs.declared.value.Value.TheVariants.{Null, Int, Text, Blo
 abbrev pub Words : Type 0
 Words = List (List ℕ)
 
--- their text: one space (32) stands between two words
+-- their text: one space (32) is between two words
 abbrev pub text_of : Words → List ℕ
 text_of words = join_with_byte 32 words
 
@@ -20,25 +22,9 @@ text_of words = join_with_byte 32 words
 abbrev pub spaced : Words → List ℕ
 spaced words = flat_map (λ word. 32 ∷ word) words
 
--- a character within quotes: a quote is doubled
-abbrev pub doubled : ℕ → ℕ → List ℕ
-doubled quote b = if b == quote then b ∷ b ∷ [] else b ∷ []
-
--- a text within quotes
-unfoldable pub quoted : ℕ → List ℕ → List ℕ
-quoted quote text = quote ∷ flat_map (doubled quote) text ++ quote ∷ []
-
 -- a name in `"` (34)
 abbrev pub name_word : List ℕ → List ℕ
 name_word name = quoted 34 name
-
--- a hexadecimal digit: 0 to 9 from 48 on, A to F from 65 on
-abbrev pub digit : ℕ → ℕ
-digit d = if nat_lt d 10 then 48 + d else 55 + d
-
--- a byte as two digits, the high one first
-abbrev pub byte_digits : ℕ → List ℕ
-byte_digits b = digit (b / 16) ∷ digit (b % 16) ∷ []
 
 -- `X'..'` (88 and 39)
 unfoldable pub blob_word : List ℕ → List ℕ
@@ -52,7 +38,7 @@ words_if flag words = if flag then words else []
 abbrev pub integer_words : ℤ → Words
 integer_words n = words_if (int_lt n (pos 0)) (codes "-" ∷ []) ++ decimal (nat_abs n) ∷ []
 
--- a literal; a text stands in `'` (39)
+-- a literal; a text is in `'` (39)
 abbrev pub value_words : Value → Words
 value_words Null = codes "NULL" ∷ []
 value_words (Int n) = integer_words n

@@ -97,7 +97,7 @@ pub fn push_expression(out: &mut String, value: &Expr) -> Result<(), NoMemory>
             push_word(out, "(")?;
             push_expression(out, left.get())?;
             push_not(out, *not)?;
-            push_behind(out, "LIKE", pattern.get())?;
+            push_after(out, "LIKE", pattern.get())?;
             push_word(out, ")")
         }
         Expr::Between {
@@ -109,8 +109,8 @@ pub fn push_expression(out: &mut String, value: &Expr) -> Result<(), NoMemory>
             push_word(out, "(")?;
             push_expression(out, left.get())?;
             push_not(out, *not)?;
-            push_behind(out, "BETWEEN", low.get())?;
-            push_behind(out, "AND", high.get())?;
+            push_after(out, "BETWEEN", low.get())?;
+            push_after(out, "AND", high.get())?;
             push_word(out, ")")
         }
         Expr::Call { name, args } => {
@@ -124,9 +124,9 @@ pub fn push_expression(out: &mut String, value: &Expr) -> Result<(), NoMemory>
     }
 }
 
-// An operand behind its operator.
+// An operand after its operator.
 #[cycle(expression)]
-fn push_behind(out: &mut String, operator: &str, operand: &Expr) -> Result<(), NoMemory>
+fn push_after(out: &mut String, operator: &str, operand: &Expr) -> Result<(), NoMemory>
     ensures { OnOk result (string_bytes out.new
         ≡ string_bytes out.old ++ spaced (operator.now ∷ expression_words operand.now)) }
 {
@@ -140,7 +140,7 @@ fn push_unary(out: &mut String, operator: &str, operand: &Expr) -> Result<(), No
         ≡ string_bytes out.old ++ spaced (enclosed (operator.now ∷ expression_words operand.now))) }
 {
     push_word(out, "(")?;
-    push_behind(out, operator, operand)?;
+    push_after(out, operator, operand)?;
     push_word(out, ")")
 }
 
@@ -165,7 +165,7 @@ fn push_values(out: &mut String, values: &[Expr]) -> Result<(), NoMemory>
     };
     push_expression(out, first)?;
     for other in others {
-        push_behind(out, ",", other)?;
+        push_after(out, ",", other)?;
     }
     Ok(())
 }

@@ -7,6 +7,7 @@
 mod bound;
 mod expression;
 mod expression_text;
+mod kind;
 mod operator;
 mod phrase;
 mod query;
@@ -14,17 +15,14 @@ mod query_text;
 mod statement;
 mod statement_text;
 mod table;
-#[cfg(test)]
-mod tests;
 mod words;
 
 pub use bound::Bound;
 pub use expression::Expr;
+pub use hc_text::NoMemory;
+pub use kind::{StatementKind, statement_kind};
 pub use operator::BinaryOp;
 pub use query::{FromTable, Item, Select, Term};
 pub use statement::{Assign, ExprRow, Stmt};
 pub use statement_text::print;
 pub use table::{ColumnDef, ColumnRule, KeyRule};
-
-/// An allocation was refused. It has no further cause.
-pub type NoMemory = std::alloc::AllocError;

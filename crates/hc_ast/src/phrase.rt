@@ -1,4 +1,4 @@
-// What is printed as words behind other words, and lists of it.
+// What is printed as words after other words, and lists of it.
 ghost use Rattle.std.specs.Prelude.{◌≡◌, ◌∷◌, [], ◌++◌, OnOk, string_bytes, map, codes};
 ghost use Rattle.std.specs.List.{flat_map};
 ghost use Rattle.hc_ast.specs.Words.{spaced, listed, name_word};
@@ -16,7 +16,7 @@ pub trait Phrase {
     /// Its words.
     ghost words: { Self → List (List ℕ) };
 
-    /// Writes them, each behind a space.
+    /// Writes them, each after a space.
     fn push(&self, out: &mut String) -> Result<(), NoMemory>
         ensures { OnOk result (string_bytes out.new ≡ string_bytes out.old ++ spaced (words self.now)) };
 }
@@ -61,7 +61,7 @@ pub fn push_others<P: Phrase>(out: &mut String, others: &[P]) -> Result<(), NoMe
     Ok(())
 }
 
-// One behind the other.
+// One after the other.
 pub fn push_each<P: Phrase>(out: &mut String, parts: &[P]) -> Result<(), NoMemory>
     ensures { OnOk result (string_bytes out.new ≡ string_bytes out.old ++ spaced (flat_map P.words parts.now)) }
 {

@@ -98,7 +98,7 @@ fn push_source(out: &mut String, table: &FromTable) -> Result<(), NoMemory>
     push_alias(out, &table.alias)
 }
 
-// A table behind another one.
+// A table after another one.
 impl Phrase for FromTable {
     ghost words = { joined_words };
 

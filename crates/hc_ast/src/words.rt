@@ -1,9 +1,11 @@
-// The words of canonical text, each written behind a space.
+// The words of canonical text, each written after a space.
 ghost use Rattle.std.specs.Prelude.{◌≡◌, ◌∷◌, [], ◌++◌, ◌<◌, OnOk, string_bytes, encode_utf8_all};
-ghost use Rattle.std.specs.List.{flat_map};
-ghost use Rattle.hc_ast.specs.Words.{spaced, doubled, name_word, quoted, blob_word, byte_digits, digit, integer_words, value_words};
+ghost use Rattle.hc_text.specs.Digits.{byte_digits};
+ghost use Rattle.hc_text.specs.Quotes.{doubled, quoted};
+ghost use Rattle.hc_ast.specs.Words.{spaced, name_word, blob_word, integer_words, value_words};
 
 use crate::NoMemory;
+use hc_text::hex_digit;
 use hc_value::{Blob, Str, Value};
 use itoa::Buffer;
 
@@ -50,7 +52,6 @@ fn push_text(out: &mut String, text: &Str) -> Result<(), NoMemory>
 }
 
 // A text within quotes.
-#[tactic(auto, unfolding(crate::specs::Words::quoted))]
 fn push_quoted(out: &mut String, quote: char, text: &str) -> Result<(), NoMemory>
     requires { quote < 128 }
     ensures { OnOk result (string_bytes out.new ≡ string_bytes out.old ++ quoted quote text.now) }
@@ -67,10 +68,10 @@ fn push_ascii(out: &mut String, c: char) -> Result<(), NoMemory>
     out.push(c)
 }
 
-// What stands within quotes.
+// The characters within quotes.
 fn push_inner(out: &mut String, quote: char, text: &str) -> Result<(), NoMemory>
     requires { quote < 128 }
-    ensures { OnOk result (string_bytes out.new ≡ string_bytes out.old ++ flat_map (doubled quote) text.now) }
+    ensures { OnOk result (string_bytes out.new ≡ string_bytes out.old ++ doubled quote text.now) }
 {
     for c in text.chars() {
         push_doubled(out, quote, c)?;
@@ -80,7 +81,7 @@ fn push_inner(out: &mut String, quote: char, text: &str) -> Result<(), NoMemory>
 
 fn push_doubled(out: &mut String, quote: char, c: char) -> Result<(), NoMemory>
     ensures { OnOk result (string_bytes out.new
-        ≡ string_bytes out.old ++ encode_utf8_all (flat_map (doubled quote) (c ∷ []))) }
+        ≡ string_bytes out.old ++ encode_utf8_all (doubled quote (c ∷ []))) }
 {
     if c == quote {
         out.push(c)?;
@@ -102,16 +103,6 @@ fn push_blob(out: &mut String, blob: &Blob) -> Result<(), NoMemory>
 fn push_byte(out: &mut String, b: u8) -> Result<(), NoMemory>
     ensures { OnOk result (string_bytes out.new ≡ string_bytes out.old ++ byte_digits b) }
 {
-    out.push(hexadecimal(b / 16))?;
-    out.push(hexadecimal(b % 16))
-}
-
-// A digit in upper case.
-fn hexadecimal(d: u8) -> char
-    requires { d < 16 }
-    ensures value { result ≡ digit d }
-    ensures ascii { result < 128 }
-{
-    let code = if d < 10 { b'0' + d } else { b'A' - 10 + d };
-    char::from(code)
+    out.push(char::from(hex_digit(b / 16)))?;
+    out.push(char::from(hex_digit(b % 16)))
 }

@@ -2,8 +2,8 @@
 #[derive(Debug, Clone, Copy, PartialEq, Eq)]
 pub struct Tid(pub u32);
 
-/// A commit number: the place of a committed transaction among all commits. As a snapshot, 0 stands for
-/// the time before the first.
+/// A commit number: the place of a committed transaction among all commits. As a snapshot, 0 is the
+/// time before the first.
 #[derive(Debug, Clone, Copy, PartialEq, Eq)]
 pub struct Cid(pub u32);
 

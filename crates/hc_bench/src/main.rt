@@ -30,7 +30,7 @@ fn main(rt: HostRuntime) -> io::Result<()> {
     look_up(&rt, &log)
 }
 
-// Looks up the same keys in each log: of the ascending ranges each holds one, and the next is behind it.
+// Looks up the same keys in each log: of the ascending ranges each holds one, and the next is after it.
 fn look_up(rt: &HostRuntime, log: &ReadLog) -> io::Result<()> {
     let start = Instant::now(rt)?;
     let covered = count_covered(log);

@@ -4,11 +4,11 @@ use Rattle.std.proofs.lemmas.Bool.{cases_eq, cases_lt}
 use Rattle.hc_range.specs.declared.range.Range.{Range}
 use Rattle.hc_range.specs.Ranges.{Includes}
 use Rattle.hc_core.specs.Lookup.{Among}
-use Rattle.hc_core.specs.Account.{Txn, HoldsKey, IsIdle, PartRead, Stands, StandsAs, WhenOpen, part_of}
+use Rattle.hc_core.specs.Account.{Txn, HoldsKey, IsIdle, PartRead, HasWritten, HasWrittenAs, WhenOpen, part_of}
 use Rattle.hc_core.specs.Commits.{cells_with, holds_tombstone, is_in, least_with}
 use Rattle.hc_core.specs.Machine.{Answers, IsAnswer, IsCheckAnswer, IsDecideAnswer, IsEnabled, IsForgettable, IsPutAnswer, Machine, Names, next_number, txns_of}
 use Rattle.hc_core.specs.Sound.{IsSound}
-use Rattle.hc_core.specs.Versions.{AreCellsAfter, IsBetween, IsFirstVersion, IsFound, PutAt}
+use Rattle.hc_core.specs.Versions.{AreCellsAfter, IsBetween, IsLatestVersion, IsFound, PutAt}
 use Rattle.hc_core.specs.declared.cells.Cell.{Cell}
 use Rattle.hc_core.specs.declared.event.Event.{Event}
 use Rattle.hc_core.specs.declared.event.Event.TheVariants.{Begin, Draw, Read, Put, Propose, Check, Decide, Unput, End, Purge}
@@ -54,21 +54,21 @@ module _ (m : Machine) (s : IsSound m) where
   abbrev HasPut : List ℕ → ℕ → Type 0
   HasPut key c = (rec : Option (List ℕ)) × PutAt (txns_of m) (c + 1) key rec
 
-  -- it put what stands in the transaction that the log has there
+  -- it put what is written in the transaction that the log has there
   puts_are : (c : ℕ) (within : c < length m.log) (key : List ℕ) (rec : Option (List ℕ))
-      → PutAt (txns_of m) (c + 1) key rec ↔ Among (record { key = key; rec = rec }) (s.sound.entries c within).1.standing
+      → PutAt (txns_of m) (c + 1) key rec ↔ Among (record { key = key; rec = rec }) (s.sound.entries c within).1.write_set
   puts_are c within key rec =
       let e = s.sound.entries c within in (
         λ put.
             let same = one_place s.sound put.0 e.0 put.1 e.1 put.2 e.2 (λ none. omega (arith, none, put.3)) (omega (arith, put.3, e.3)) in
-            subst (λ (t : Txn). Among (record { key = key; rec = rec }) t.standing) same.1 put.5,
+            subst (λ (t : Txn). Among (record { key = key; rec = rec }) t.write_set) same.1 put.5,
         λ there. (e.0, e.1, e.2, e.3, omega arith, there),
       )
 
   -- whether a commit put a key
   known_put : (key : List ℕ) (c : ℕ) → c < length m.log → Known (HasPut key c)
   known_put key c within =
-      let ws = (s.sound.entries c within).1.standing in
+      let ws = (s.sound.entries c within).1.write_set in
       known_as (HoldsKey ws key) (HasPut key c) (λ held. (held.0, (puts_are c within key held.0).1 held.1))
       (λ put. (put.0, (puts_are c within key put.0).0 put.1)) (known_holds key ws)
 
@@ -76,60 +76,60 @@ module _ (m : Machine) (s : IsSound m) where
   last_put : (key : List ℕ) (n : ℕ) → n ≤ length m.log → ((c : ℕ) × IsLast (HasPut key) n c) ⊎ ((c : ℕ) → c < n → HasPut key c → ⊥)
   last_put key n within = last_below (HasPut key) n (λ c below. known_put key c (omega (arith, below, within)))
 
-  -- what stands in a committed transaction is what its commit put
-  was_put : (key : List ℕ) (j : ℕ) (u : Txn) → Among u (txns_of m j) → u.place ≢ 0 → Stands u key → (u.place - 1 < length m.log) × HasPut key (u.place - 1)
-  was_put key j u there placed stands =
+  -- what is written in a committed transaction is what its commit put
+  was_put : (key : List ℕ) (j : ℕ) (u : Txn) → Among u (txns_of m j) → u.place ≢ 0 → HasWritten u key → (u.place - 1 < length m.log) × HasPut key (u.place - 1)
+  was_put key j u there placed written =
       let at : u.place ≡ (u.place - 1) + 1 = omega arith in
-      (omega (arith, at, ((s.sound.each j u there).place placed).1), (stands.0, (j, u, there, at, omega arith, stands.1)))
+      (omega (arith, at, ((s.sound.each j u there).numbers.place_within placed).1), (written.0, (j, u, there, at, omega arith, written.1)))
 
   -- nothing that put the key is newer than the last commit that did
-  not_newer : (key : List ℕ) (n c : ℕ) → IsLast (HasPut key) n c → (j : ℕ) (u : Txn) → Among u (txns_of m j) → u.place ≤ n → Stands u key → u.place ≤ c + 1
-  not_newer key n c last j u there upto stands =
+  not_newer : (key : List ℕ) (n c : ℕ) → IsLast (HasPut key) n c → (j : ℕ) (u : Txn) → Among u (txns_of m j) → u.place ≤ n → HasWritten u key → u.place ≤ c + 1
+  not_newer key n c last j u there upto written =
       ⊎_elim
       (λ (above : c + 1 < u.place).
       let placed : u.place ≢ 0 = (λ none. omega (arith, none, above)) in
-      absurd (last.2 (u.place - 1) (omega (arith, above)) (omega (arith, above, upto)) (was_put key j u there placed stands).1))
+      absurd (last.2 (u.place - 1) (omega (arith, above)) (omega (arith, above, upto)) (was_put key j u there placed written).1))
       (λ within. within) (cases_lt (c + 1) u.place)
 
   -- an open transaction that is undecided and has the key
   abbrev IsOpenWith : List ℕ → ℕ → Type 0
-  IsOpenWith key j = WhenOpen (txns_of m j) (λ u. (u.place ≡ 0) × Stands u key)
+  IsOpenWith key j = WhenOpen (txns_of m j) (λ u. (u.place ≡ 0) × HasWritten u key)
 
   -- there is such a connection, or none
   open_with : (key : List ℕ) → ((j : ℕ) × IsOpenWith key j) ⊎ ((j : ℕ) → IsOpenWith key j → ⊥)
   open_with key =
       ⊎_elim
       (λ found. inl (found.0, found.1.1))
-      (λ none. inr (λ j running. none j (open_in_range m j (λ u. (u.place ≡ 0) × Stands u key) running) running))
+      (λ none. inr (λ j running. none j (open_in_range m j (λ u. (u.place ≡ 0) × HasWritten u key) running) running))
       (last_below (IsOpenWith key) (length m.accounts)
-      (λ j below. known_open (λ u. (u.place ≡ 0) × Stands u key) (txns_of m j) (λ u. known_both (u.place ≡ 0) (Stands u key) (known_zero u.place) (known_holds key u.standing))))
+      (λ j below. known_open (λ u. (u.place ≡ 0) × HasWritten u key) (txns_of m j) (λ u. known_both (u.place ≡ 0) (HasWritten u key) (known_zero u.place) (known_holds key u.write_set))))
 
   -- where no open transaction has the key, the last commit that put it has its first version
   first_is : (key : List ℕ) → ((j : ℕ) → IsOpenWith key j → ⊥) → (c : ℕ) → (last : IsLast (HasPut key) (length m.log) c)
-      → IsFirstVersion (txns_of m) key last.1.1.0 last.1.1.1
+      → IsLatestVersion (txns_of m) key last.1.1.0 last.1.1.1
   first_is key none_open c last =
       let put = last.1.1 in (
         put.2,
         (last.1.0, put.5),
         inr (
           (λ none. omega (arith, none, put.3)),
-          λ j v there stands.
-              let placed = writer_placed s.sound key none_open j v there stands in
-              (placed, omega (arith, put.3, not_newer key (length m.log) c last j v there ((s.sound.each j v there).place placed).1 stands)),
+          λ j v there written.
+              let placed = writer_placed s.sound key none_open j v there written in
+              (placed, omega (arith, put.3, not_newer key (length m.log) c last j v there ((s.sound.each j v there).numbers.place_within placed).1 written)),
         ),
       )
 
-  -- a put of a key that does not stand put has an answer
-  put_answer : (i : ℕ) (key : List ℕ) (t : Txn) (rest : List Txn) → txns_of m i ≡ t ∷ rest → (Stands t key → ⊥) → (outcome : Outcome) × IsPutAnswer m i key t outcome
-  put_answer i key t rest is not_stands =
+  -- a put of a key that is not in the write set has an answer
+  put_answer : (i : ℕ) (key : List ℕ) (t : Txn) (rest : List Txn) → txns_of m i ≡ t ∷ rest → (HasWritten t key → ⊥) → (outcome : Outcome) × IsPutAnswer m i key t outcome
+  put_answer i key t rest is not_written =
       ⊎_elim
       (λ w. ⊎_elim
       (λ (own : w.0 ≡ i). absurd (
       let here : IsOpenWith key i = subst (λ (j : ℕ). IsOpenWith key j) own w.1 in
-      not_stands ((subst (λ (ts : List Txn). WhenOpen ts (λ u. (u.place ≡ 0) × Stands u key)) is here).1.1)))
+      not_written ((subst (λ (ts : List Txn). WhenOpen ts (λ u. (u.place ≡ 0) × HasWritten u key)) is here).1.1)))
       (λ differ.
       let way = open_in_the_way s.sound i t.snapshot key w.0 differ (λ _. Unit {0})
-      (when_map (λ u. (u.place ≡ 0) × Stands u key) (λ u. (u.place ≡ 0) × Stands u key × Unit {0}) (txns_of m w.0) (λ u both. (both.0, both.1, tt)) w.1) in
+      (when_map (λ u. (u.place ≡ 0) × HasWritten u key) (λ u. (u.place ≡ 0) × HasWritten u key × Unit {0}) (txns_of m w.0) (λ u both. (both.0, both.1, tt)) w.1) in
       (Met (met_of w.0 way.0 key), inl (met_of w.0 way.0 key, w.0, way.0, way.1, names_of w.0 way.0 key, refl)))
       (cases_eq w.0 i))
       (λ none_open. ⊎_elim
@@ -137,9 +137,9 @@ module _ (m : Machine) (s : IsSound m) where
       (λ none. (
         Done,
         inr (
-          (λ j v there stands.
-              let placed = writer_placed s.sound key none_open j v there stands in
-              let put = was_put key j v there placed stands in
+          (λ j v there written.
+              let placed = writer_placed s.sound key none_open j v there written in
+              let put = was_put key j v there placed written in
               absurd (none (v.place - 1) put.0 put.1)),
           refl,
         ),
@@ -158,9 +158,9 @@ module _ (m : Machine) (s : IsSound m) where
           (λ (seen : c + 1 ≤ t.snapshot). (
             Done,
             inr (
-              (λ j v there stands.
-                  let placed = writer_placed s.sound key none_open j v there stands in
-                  (inl placed, omega (arith, seen, not_newer key (length m.log) c last j v there ((s.sound.each j v there).place placed).1 stands))),
+              (λ j v there written.
+                  let placed = writer_placed s.sound key none_open j v there written in
+                  (inl placed, omega (arith, seen, not_newer key (length m.log) c last j v there ((s.sound.each j v there).numbers.place_within placed).1 written))),
               refl,
             ),
           ))
@@ -187,9 +187,9 @@ module _ (m : Machine) (s : IsSound m) where
       ))
       (λ (at : from ≤ n).
       let e = s.sound.entries n here in (
-        least_with part before.0 e.1.standing,
-        least_same (λ key. ((is_in part key ≡ true) × IsPutFrom from n key) ⊎ ((is_in part key ≡ true) × HoldsKey e.1.standing key))
-            (λ key. (is_in part key ≡ true) × IsPutFrom from (suc n) key) (least_with part before.0 e.1.standing)
+        least_with part before.0 e.1.write_set,
+        least_same (λ key. ((is_in part key ≡ true) × IsPutFrom from n key) ⊎ ((is_in part key ≡ true) × HoldsKey e.1.write_set key))
+            (λ key. (is_in part key ≡ true) × IsPutFrom from (suc n) key) (least_with part before.0 e.1.write_set)
             (λ key. (
               λ p. ⊎_elim
                   (λ was. (was.0, (was.1.0, was.1.1, omega (arith, was.1.2), was.1.3)))
@@ -198,7 +198,7 @@ module _ (m : Machine) (s : IsSound m) where
                   (λ (last : p.1.0 ≡ n). inr (p.0, (p.1.3.0, (puts_are n here key p.1.3.0).0 (subst (λ (c : ℕ). PutAt (txns_of m) (c + 1) key p.1.3.0) last p.1.3.1))))
                   (λ differ. inl (p.0, (p.1.0, p.1.1, omega (arith, p.1.2, differ), p.1.3))) (cases_eq p.1.0 n),
             ))
-            (least_writes (λ key. (is_in part key ≡ true) × IsPutFrom from n key) part before.0 e.1.standing before.1),
+            (least_writes (λ key. (is_in part key ≡ true) × IsPutFrom from n key) part before.0 e.1.write_set before.1),
       ))
       (cases_lt n from)
 
@@ -242,9 +242,9 @@ module _ (m : Machine) (s : IsSound m) where
       let here : k < length m.log = omega (arith, within) in
       let e = s.sound.entries k here in
       let next : k + 1 ≡ suc k = omega arith in (
-        cells_with part before.0 e.1.standing,
-        subst (λ (n : ℕ). AreCellsAfter (txns_of m) n part (cells_with part before.0 e.1.standing)) next
-            (cells_next (txns_of m) part k before.0 e.1.standing (once_one e.1.standing (s.sound.each e.0 e.1 e.2).once) (puts_are k here) before.1),
+        cells_with part before.0 e.1.write_set,
+        subst (λ (n : ℕ). AreCellsAfter (txns_of m) n part (cells_with part before.0 e.1.write_set)) next
+            (cells_next (txns_of m) part k before.0 e.1.write_set (once_one e.1.write_set (s.sound.each e.0 e.1 e.2).writes.once) (puts_are k here) before.1),
       )
 
   -- a decision has an answer
@@ -257,16 +257,16 @@ module _ (m : Machine) (s : IsSound m) where
   answer_of (Draw i ord) enabled = (_, refl)
   answer_of (Read i from upto) enabled =
       let o = opened (txns_of m i) (λ t. t.id ≡ 0) enabled in
-      let c = cells_there (part_of from upto) o.t.snapshot (newest_sound s.sound i o.t o.rest o.is).snapshot in
+      let c = cells_there (part_of from upto) o.t.snapshot (newest_sound s.sound i o.t o.rest o.is).numbers.snapshot_within in
       (Cells (record { cells = c.0 }), when_is (txns_of m i) o.t o.rest _ o.is o.running (c.0, c.1, refl))
   answer_of (Put i key rec) enabled =
-      let o = opened (txns_of m i) (λ t. (t.id ≢ 0) × (t.place ≡ 0) × (t.proposed ≡ 0) × (Stands t key → ⊥)) enabled in
+      let o = opened (txns_of m i) (λ t. (t.id ≢ 0) × (t.place ≡ 0) × (t.proposed ≡ 0) × (HasWritten t key → ⊥)) enabled in
       let a = put_answer i key o.t o.rest o.is (o.holds).3 in
       (a.0, when_is (txns_of m i) o.t o.rest (λ t. IsPutAnswer m i key t a.0) o.is o.running a.1)
   answer_of (Propose i) enabled = (_, refl)
   answer_of (Check i from upto) enabled =
       let o = opened (txns_of m i) (λ t. t.proposed ≢ 0) enabled in
-      let a = check_answer (part_of from upto) o.t (omega (arith, (newest_sound s.sound i o.t o.rest o.is).proposed)) in
+      let a = check_answer (part_of from upto) o.t (omega (arith, (newest_sound s.sound i o.t o.rest o.is).numbers.proposed_within)) in
       (a.0, when_is (txns_of m i) o.t o.rest (λ t. IsCheckAnswer m (part_of from upto) t a.0) o.is o.running a.1)
   answer_of (Decide i) enabled =
       let o = opened (txns_of m i) (λ t. (t.proposed ≢ 0) × (t.place ≡ 0) × ((read : PartRead) → Among read t.reads → Includes t.checked read.part)) enabled in
@@ -291,7 +291,7 @@ module _ (m : Machine) (s : IsSound m) where
   known_forgettable key =
       ⊎_elim
       (λ w. inr (λ f.
-      let o = opened (txns_of m w.0) (λ u. (u.place ≡ 0) × Stands u key) w.1 in
+      let o = opened (txns_of m w.0) (λ u. (u.place ≡ 0) × HasWritten u key) w.1 in
       ⊎_elim (λ none. f.3 none) (λ placed. (placed.1 w.0 o.t (subst (Among o.t) (sym o.is) (inl refl)) (o.holds).1).0 (o.holds).0) f.2.2))
       (λ none_open. ⊎_elim
       (λ l. by_log none_open l.0 l.1)
@@ -303,16 +303,16 @@ module _ (m : Machine) (s : IsSound m) where
       by_log none_open c last =
           let put = last.1.1 in
           let first = first_is key none_open c last in
-          known_as (StandsAs put.1 key None × ((i : ℕ) (t : Txn) → Among t (txns_of m i) → t.ended ≡ false → c + 1 ≤ t.snapshot)) (IsForgettable (txns_of m) key)
+          known_as (HasWrittenAs put.1 key None × ((i : ℕ) (t : Txn) → Among t (txns_of m i) → t.ended ≡ false → c + 1 ≤ t.snapshot)) (IsForgettable (txns_of m) key)
           (λ both. (put.0, put.1, first, (λ none. omega (arith, none, put.3)), both.0, λ i t there running. omega (arith, put.3, both.1 i t there running)))
           (λ f.
           let same = (first_one s.sound key f.0 put.0 f.1 put.1 f.2 first).1 in (
-            subst (λ (u : Txn). StandsAs u key None) same f.4,
+            subst (λ (u : Txn). HasWrittenAs u key None) same f.4,
             λ i t there running. omega (arith, put.3, ap (λ (u : Txn). u.place) same, f.5 i t there running),
           ))
-          (known_both (StandsAs put.1 key None) ((i : ℕ) (t : Txn) → Among t (txns_of m i) → t.ended ≡ false → c + 1 ≤ t.snapshot)
-          (known_as (holds_tombstone key put.1.standing ≡ true) (StandsAs put.1 key None) (tombstone_into key put.1.standing) (tombstone_from key put.1.standing)
-          (known_true (holds_tombstone key put.1.standing)))
+          (known_both (HasWrittenAs put.1 key None) ((i : ℕ) (t : Txn) → Among t (txns_of m i) → t.ended ≡ false → c + 1 ≤ t.snapshot)
+          (known_as (holds_tombstone key put.1.write_set ≡ true) (HasWrittenAs put.1 key None) (tombstone_into key put.1.write_set) (tombstone_from key put.1.write_set)
+          (known_true (holds_tombstone key put.1.write_set)))
           (known_seen c))
 
   -- whether all parts that were read lie in some parts
@@ -331,11 +331,11 @@ module _ (m : Machine) (s : IsSound m) where
       (known_each (λ (u : Txn). u.ord < ord) (txns_of m i) (λ u. known_below u.ord ord)) (known_below m.drawn (2 ^ 32 - 1))))))
   known_enabled (Read i from upto) = known_open (λ t. t.id ≡ 0) (txns_of m i) (λ t. known_zero t.id)
   known_enabled (Put i key rec) =
-      known_open (λ t. (t.id ≢ 0) × (t.place ≡ 0) × (t.proposed ≡ 0) × (Stands t key → ⊥)) (txns_of m i)
-      (λ t. known_as ((t.id ≢ 0) × ((t.place ≡ 0) × ((t.proposed ≡ 0) × (Stands t key → ⊥)))) _
+      known_open (λ t. (t.id ≢ 0) × (t.place ≡ 0) × (t.proposed ≡ 0) × (HasWritten t key → ⊥)) (txns_of m i)
+      (λ t. known_as ((t.id ≢ 0) × ((t.place ≡ 0) × ((t.proposed ≡ 0) × (HasWritten t key → ⊥)))) _
       (λ p. (p.0, p.1.0, p.1.1.0, p.1.1.1)) (λ p. (p.0, (p.1, (p.2, p.3))))
       (known_both (t.id ≢ 0) _ (known_not (t.id ≡ 0) (known_zero t.id)) (known_both (t.place ≡ 0) _ (known_zero t.place)
-      (known_both (t.proposed ≡ 0) (Stands t key → ⊥) (known_zero t.proposed) (known_not (Stands t key) (known_holds key t.standing))))))
+      (known_both (t.proposed ≡ 0) (HasWritten t key → ⊥) (known_zero t.proposed) (known_not (HasWritten t key) (known_holds key t.write_set))))))
   known_enabled (Propose i) =
       known_open (λ t. (t.id ≢ 0) × (t.place ≡ 0)) (txns_of m i)
       (λ t. known_both (t.id ≢ 0) (t.place ≡ 0) (known_not (t.id ≡ 0) (known_zero t.id)) (known_zero t.place))
@@ -347,10 +347,10 @@ module _ (m : Machine) (s : IsSound m) where
       (known_both (t.proposed ≢ 0) _ (known_not (t.proposed ≡ 0) (known_zero t.proposed))
       (known_both (t.place ≡ 0) ((read : PartRead) → Among read t.reads → Includes t.checked read.part) (known_zero t.place) (known_includes t.checked t.reads))))
   known_enabled (Unput i key) =
-      known_open (λ t. Stands t key × (t.place ≡ 0)) (txns_of m i) (λ t. known_both (Stands t key) (t.place ≡ 0) (known_holds key t.standing) (known_zero t.place))
+      known_open (λ t. HasWritten t key × (t.place ≡ 0)) (txns_of m i) (λ t. known_both (HasWritten t key) (t.place ≡ 0) (known_holds key t.write_set) (known_zero t.place))
   known_enabled (End i) =
-      known_open (λ t. (t.place ≢ 0) ⊎ (t.standing ≡ [])) (txns_of m i)
-      (λ t. known_either (t.place ≢ 0) (t.standing ≡ []) (known_not (t.place ≡ 0) (known_zero t.place)) (known_none t.standing))
+      known_open (λ t. (t.place ≢ 0) ⊎ (t.write_set ≡ [])) (txns_of m i)
+      (λ t. known_either (t.place ≢ 0) (t.write_set ≡ []) (known_not (t.place ≡ 0) (known_zero t.place)) (known_none t.write_set))
   known_enabled (Purge key) = known_forgettable key
 
 -- each event of a sound machine has an answer

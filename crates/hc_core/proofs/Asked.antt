@@ -2,7 +2,7 @@
 use Rattle.std.proofs.Common.{◌≡◌, ◌∙◌, ⊎_elim, refl, sym, ap, subst, inl, inr, ℕ, ◌+◌, ◌<◌, ◌≤◌, true, false, Option, List, [], ◌∷◌, length, arith, get_or, slice_set}
 use Rattle.std.proofs.lemmas.Bool.{cases_lt}
 use Rattle.std.proofs.lemmas.List.{set-get_or}
-use Rattle.hc_core.specs.Account.{Txn, Stands, WhenOpen, part_of}
+use Rattle.hc_core.specs.Account.{Txn, HasWritten, WhenOpen, part_of}
 use Rattle.hc_core.specs.Kept.{IsKept}
 use Rattle.hc_core.specs.Machine.{Answers, IsEnabled, IsFree, IsUnchanged, Machine, Names, txns_of}
 use Rattle.hc_core.specs.Running.{Matches, MayPut, holds_key}
@@ -20,13 +20,13 @@ use Rattle.hc_core.specs.declared.running.Running.{Running}
 use Rattle.hc_core.proofs.Entered.{opened}
 use Rattle.hc_core.proofs.Ordered.{after_each, newest_sound}
 use Rattle.hc_core.proofs.Upheld.{Settles}
-use Rattle.hc_core.proofs.Steps.{held_of, not_both_ways, stands_of, when_map, when_never}
+use Rattle.hc_core.proofs.Steps.{held_of, not_both_ways, written_of, when_map, when_never}
 
 -- a snapshot is not above the log's end
 pub snapshot_within : (m : Machine) (i : ℕ) (r : Running) → IsSound m → WhenOpen (txns_of m i) (Matches r) → r.snapshot ≤ length m.log
 snapshot_within m i r sound h =
     let o = opened (txns_of m i) (Matches r) h in
-    subst (λ n. n ≤ length m.log) (sym (o.holds).snapshot) ((newest_sound sound.sound i o.t o.rest o.is).snapshot)
+    subst (λ n. n ≤ length m.log) (sym (o.holds).snapshot) ((newest_sound sound.sound i o.t o.rest o.is).numbers.snapshot_within)
 
 -- nothing has changed
 pub kept_same : (drawn : ℕ) (commits : List Commit) (room : ℕ) (accounts : List (List Entry)) (i : ℕ) (account old d : List Entry)
@@ -52,7 +52,7 @@ put_enabled m i key rec r h may =
       (λ none. may.0 (k.id ∙ none)),
       sym k.place ∙ may.1,
       sym k.proposed ∙ may.2,
-      λ stands. not_both_ways (holds_key key r.writes.items) (held_of r t key k (sym k.place ∙ may.1) stands) may.3,
+      λ written. not_both_ways (holds_key key r.writes.items) (held_of r t key k (sym k.place ∙ may.1) written) may.3,
     )) h
 
 -- who may not put has no put that is enabled
@@ -64,7 +64,7 @@ put_disabled m i key rec r h not_may enabled =
       (λ none. q.0 (sym k.id ∙ none)),
       k.place ∙ q.1,
       k.proposed ∙ q.2,
-      false_from (holds_key key r.writes.items) (λ held. q.3 ((stands_of r t key k (k.place ∙ q.1) held).0)),
+      false_from (holds_key key r.writes.items) (λ held. q.3 ((written_of r t key k (k.place ∙ q.1) held).0)),
     )) h enabled
   where
     false_from : (b : _) → (b ≡ true → ⊥) → b ≡ false
@@ -90,9 +90,9 @@ put_refused m i key rec r met h may way = inl (
 
 -- the connection's own open transaction does not have the key
 pub own_closed : (m : Machine) (i : ℕ) (key : List ℕ) (r : Running) → WhenOpen (txns_of m i) (Matches r) → MayPut r key
-    → WhenOpen (txns_of m i) (λ t. (t.place ≡ 0) × Stands t key) → ⊥
-own_closed m i key r h may stands =
-    when_never (Matches r) _ (txns_of m i) (λ t k q. not_both_ways (holds_key key r.writes.items) (held_of r t key k q.0 q.1) may.3) h stands
+    → WhenOpen (txns_of m i) (λ t. (t.place ≡ 0) × HasWritten t key) → ⊥
+own_closed m i key r h may written =
+    when_never (Matches r) _ (txns_of m i) (λ t k q. not_both_ways (holds_key key r.writes.items) (held_of r t key k q.0 q.1) may.3) h written
 
 -- a check that finds nothing is done
 pub check_done : (m : Machine) (i : ℕ) (from : List ℕ) (upto : Option (List ℕ)) (r : Running) → WhenOpen (txns_of m i) (Matches r) → (r.proposed ≡ 0 → ⊥)
@@ -128,12 +128,12 @@ check_refused m i from upto r met h some found = inl (
 
 -- a short key put by an undecided transaction
 pub settles_put : (key : List ℕ) (rec : Option (List ℕ)) (t : Txn) → t.place ≡ 0 → length key ≤ 463
-    → Settles t (record t { standing = record { key = key; rec = rec } ∷ t.standing; puts = record { key = key; rec = rec } ∷ t.puts })
+    → Settles t (record t { write_set = record { key = key; rec = rec } ∷ t.write_set; puts = record { key = key; rec = rec } ∷ t.puts })
 settles_put key rec t undecided short = record {
   decided = λ some. absurd (some undecided);
-  short = λ all other stands. elim (stands.1) [
+  short = λ all other written. elim (written.1) [
     | inl same ↦ subst (λ k. length k ≤ 463) (sym (ap (λ (w : Write). w.key) same)) short
-    | inr there ↦ all other (stands.0, there)
+    | inr there ↦ all other (written.0, there)
   ];
 }
 

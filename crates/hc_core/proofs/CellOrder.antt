@@ -27,8 +27,8 @@ set_step : (key : List ℕ) (rec : Option (List ℕ)) (cell : Cell) (cells : Lis
     → put_in_at (count_below key cells) key rec (take_out_at (count_below key cells) key cells) ≡ set_cell key rec cells
     → put_in_at (cond b (count_below key cells + 1) 0) key rec (take_out_at (cond b (count_below key cells + 1) 0) key (cell ∷ cells))
     ≡ cond b (cell ∷ set_cell key rec cells) (set_here key rec (cond (bytes_eq cell.key key) cells (cell ∷ cells)))
-set_step key rec cell cells true behind = rw (add-one (count_below key cells)) (ap (λ (rest : List Cell). cell ∷ rest) behind)
-set_step key rec cell cells false behind = refl
+set_step key rec cell cells true following = rw (add-one (count_below key cells)) (ap (λ (rest : List Cell). cell ∷ rest) following)
+set_step key rec cell cells false following = refl
 
 -- a cell is set by taking out the one at its place and putting it in there
 pub set_is : (key : List ℕ) (rec : Option (List ℕ)) (cells : List Cell)
@@ -57,7 +57,7 @@ none_below key [] each rec there = absurd there
 none_below key (cell ∷ cells) each rec there =
     ⊎_elim
     (λ same. true≢false (sym each.0 ∙ ap (λ (c : Cell). is_below key c.key) (sym same) ∙ below_irrefl key))
-    (λ behind. none_below key cells each.1 rec behind)
+    (λ following. none_below key cells each.1 rec following)
     there
 
 -- where a cell is not below a key, the key is below what is left but for the cell of that key
@@ -111,7 +111,7 @@ here_exact key None cells each k r = (
 here_exact key (Some rec) cells each k r = (
   λ there. ⊎_elim
       (λ same. inl (ap (λ (c : Cell). c.key) same, ap (λ (c : Cell). Some c.rec) (sym same)))
-      (λ behind. inr ((λ same. none_below key cells each r (subst (λ (x : List ℕ). Among (record { key = x; rec = r }) cells) same behind)), behind))
+      (λ following. inr ((λ same. none_below key cells each r (subst (λ (x : List ℕ). Among (record { key = x; rec = r }) cells) same following)), following))
       there,
   λ set. ⊎_elim
       (λ here. let e : rec ≡ r = (let f : Some rec ≡ Some r = here.1 in cc) in inl (ap (λ (x : List ℕ). record { key = x; rec = r }) here.0 ∙ ap (λ (x : List ℕ). record { key = key; rec = x }) (sym e)))
@@ -124,20 +124,20 @@ other_there : (key : List ℕ) (cell : Cell) (cells : List Cell) (k r : List ℕ
 other_there key cell cells k r differ =
     cond_both (bytes_eq cell.key key) cells (cell ∷ cells)
     (λ (rest : List Cell). Among (record { key = k; rec = r }) rest ↔ ((record { key = k; rec = r } ≡ cell) ⊎ Among (record { key = k; rec = r }) cells))
-    (λ same. (λ there. inr there, λ there. ⊎_elim (λ here. absurd (differ (ap (λ (c : Cell). c.key) here ∙ (bytes_eq-Decides cell.key key).0 same))) (λ behind. behind) there))
+    (λ same. (λ there. inr there, λ there. ⊎_elim (λ here. absurd (differ (ap (λ (c : Cell). c.key) here ∙ (bytes_eq-Decides cell.key key).0 same))) (λ following. following) there))
     (λ _. (λ there. there, λ there. there))
 
 set_exact_below : (key : List ℕ) (rec : Option (List ℕ)) (cell : Cell) (cells : List Cell) (k r : List ℕ)
     → (Among (record { key = k; rec = r }) (set_cell key rec cells) ↔ IsSetOrOther key rec cells k r) → is_below cell.key key ≡ true
     → Among (record { key = k; rec = r }) (cell ∷ set_cell key rec cells) ↔ IsSetOrOther key rec (cell ∷ cells) k r
-set_exact_below key rec cell cells k r behind less = (
+set_exact_below key rec cell cells k r following less = (
   λ there. ⊎_elim
       (λ here. inr ((λ same. true≢false (sym less ∙ ap (λ (x : List ℕ). is_below x key) (sym (ap (λ (c : Cell). c.key) here) ∙ same) ∙ below_irrefl key)), inl here))
-      (λ later. ⊎_elim (λ set. inl set) (λ other. inr (other.0, inr other.1)) (behind.0 later))
+      (λ later. ⊎_elim (λ set. inl set) (λ other. inr (other.0, inr other.1)) (following.0 later))
       there,
   λ set. ⊎_elim
-      (λ here. inr (behind.1 (inl here)))
-      (λ other. ⊎_elim (λ here. inl here) (λ later. inr (behind.1 (inr (other.0, later)))) other.1)
+      (λ here. inr (following.1 (inl here)))
+      (λ other. ⊎_elim (λ here. inl here) (λ later. inr (following.1 (inr (other.0, later)))) other.1)
       set,
 )
 

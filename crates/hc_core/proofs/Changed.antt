@@ -1,8 +1,8 @@
 -- The newest transaction of a connection changes, and what others rest on stays: all is sound as before.
-use Rattle.std.proofs.Common.{◌≡◌, ◌≢◌, ◌∙◌, ⊎_elim, refl, sym, subst, ℕ, ◌+◌, ◌<◌, ◌≤◌, true, List, ◌∷◌, Option, arith}
+use Rattle.std.proofs.Common.{◌≡◌, ◌≢◌, ◌∙◌, ⊎_elim, refl, sym, subst, ℕ, ◌+◌, ◌<◌, ◌≤◌, List, ◌∷◌, Option, arith}
 use Rattle.std.proofs.lemmas.Bool.{cases_eq}
 use Rattle.hc_core.specs.Lookup.{Among, but}
-use Rattle.hc_core.specs.Account.{Txn, Refusal, HoldsKey, Stands, StandsAs}
+use Rattle.hc_core.specs.Account.{IsAskedFor, IsPart, Txn, Refusal, HoldsKey, HasWritten, HasWrittenAs}
 use Rattle.hc_core.specs.Versions.{PutAt}
 use Rattle.hc_core.specs.Sound.{TxnIsSound, NamesWriter, ComesAfterEach, AreInOrder, AreSound}
 use Rattle.hc_core.specs.declared.cells.Write.{Write}
@@ -12,7 +12,7 @@ use Rattle.hc_core.proofs.Agreeing.{AgreeUpto, sound-agree}
 -- what others rest on: its place, what it put where it is decided, and who it is where it has put a key
 pub record Keeps (t new : Txn) : Type 0 where
   pub place : new.place ≡ t.place
-  pub standing : t.place ≢ 0 → new.standing ≡ t.standing
+  pub write_set : t.place ≢ 0 → new.write_set ≡ t.write_set
   pub id : t.place ≢ 0 → new.id ≡ t.id
   pub named : (key : List ℕ) → HoldsKey t.puts key → (new.id ≡ t.id) × (new.ord ≡ t.ord) × HoldsKey new.puts key
 
@@ -30,17 +30,17 @@ module _ (size : ℕ) (log : ℕ → ℕ) (of : ℕ → List Txn) (i : ℕ) (t n
   -- the commits put what they put before, and nothing else
   put_there : (c : ℕ) (key : List ℕ) (rec : Option (List ℕ)) → PutAt of c key rec → PutAt now c key rec
   put_there c key rec put =
-      each_old of i t rest is (λ j u. u.place ≡ c → StandsAs u key rec → PutAt now c key rec)
-      (λ at stands. (i, new, new_here of i new rest, keeps.place ∙ at, put.4, subst (λ (ws : List Write). Among (record { key = key; rec = rec }) ws) (sym (keeps.standing (λ none. put.4 (sym at ∙ none)))) stands))
-      (λ u there at stands. (i, u, rest_here of i new rest u there, at, put.4, stands))
-      (λ j u differ there at stands. (j, u, others_here of i new rest j u differ there, at, put.4, stands))
+      each_old of i t rest is (λ j u. u.place ≡ c → HasWrittenAs u key rec → PutAt now c key rec)
+      (λ at written. (i, new, new_here of i new rest, keeps.place ∙ at, put.4, subst (λ (ws : List Write). Among (record { key = key; rec = rec }) ws) (sym (keeps.write_set (λ none. put.4 (sym at ∙ none)))) written))
+      (λ u there at written. (i, u, rest_here of i new rest u there, at, put.4, written))
+      (λ j u differ there at written. (j, u, others_here of i new rest j u differ there, at, put.4, written))
       put.0 put.1 put.2 put.3 put.5
 
   put_back : (c : ℕ) (key : List ℕ) (rec : Option (List ℕ)) → PutAt now c key rec → PutAt of c key rec
   put_back c key rec put =
-      each_either of i t rest is new (λ j u. u.place ≡ c → StandsAs u key rec → PutAt of c key rec)
-      (λ at stands. (i, t, old_there of i t rest is, sym keeps.place ∙ at, put.4, subst (λ (ws : List Write). Among (record { key = key; rec = rec }) ws) (keeps.standing (was_placed (λ none. put.4 (sym at ∙ none)))) stands))
-      (λ j u there at stands. (j, u, there, at, put.4, stands))
+      each_either of i t rest is new (λ j u. u.place ≡ c → HasWrittenAs u key rec → PutAt of c key rec)
+      (λ at written. (i, t, old_there of i t rest is, sym keeps.place ∙ at, put.4, subst (λ (ws : List Write). Among (record { key = key; rec = rec }) ws) (keeps.write_set (was_placed (λ none. put.4 (sym at ∙ none)))) written))
+      (λ j u there at written. (j, u, there, at, put.4, written))
       put.0 put.1 put.2 put.3 put.5
 
   agree : AgreeUpto size of now
@@ -50,8 +50,8 @@ module _ (size : ℕ) (log : ℕ → ℕ) (of : ℕ → List Txn) (i : ℕ) (t n
   named : (j snapshot : ℕ) (r : Refusal) → NamesWriter of j snapshot r → NamesWriter now j snapshot r
   named j snapshot r n =
       each_old of i t rest is
-      (λ k u. k ≢ j → r.met.conn ≡ k → r.met.tid.0 ≡ u.id → r.met.ord ≡ u.ord → HoldsKey u.puts r.met.key → (u.place ≢ 0 → snapshot < u.place) → (r.by_check ≡ true → u.place ≢ 0) → NamesWriter now j snapshot r)
-      (λ other conn id ord put above committed.
+      (λ k u. k ≢ j → r.met.conn ≡ k → r.met.tid.0 ≡ u.id → r.met.ord ≡ u.ord → HoldsKey u.puts r.met.key → (u.place ≢ 0 → snapshot < u.place) → (IsPart r.asked → u.place ≢ 0) → IsAskedFor r.asked r.met.key → NamesWriter now j snapshot r)
+      (λ other conn id ord put above committed asked.
       let same = keeps.named r.met.key put in (
         i,
         new,
@@ -62,28 +62,31 @@ module _ (size : ℕ) (log : ℕ → ℕ) (of : ℕ → List Txn) (i : ℕ) (t n
         ord ∙ sym same.1,
         same.2,
         λ placed. subst (λ p. snapshot < p) (sym keeps.place) (above (was_placed placed)),
-        λ by_check. is_placed (committed by_check),
+        λ of_part. is_placed (committed of_part),
+        asked,
       ))
-      (λ u there other conn id ord put above committed. (i, u, rest_here of i new rest u there, other, conn, id, ord, put, above, committed))
-      (λ k u differ there other conn id ord put above committed. (k, u, others_here of i new rest k u differ there, other, conn, id, ord, put, above, committed))
-      n.0 n.1 n.2 n.3 n.4 n.5 n.6 n.7 n.8 n.9
+      (λ u there other conn id ord put above committed asked. (i, u, rest_here of i new rest u there, other, conn, id, ord, put, above, committed, asked))
+      (λ k u differ there other conn id ord put above committed asked. (k, u, others_here of i new rest k u differ there, other, conn, id, ord, put, above, committed, asked))
+      n.0 n.1 n.2 n.3 n.4 n.5 n.6 n.7 n.8 n.9 n.10
 
-  -- what is sound stays so, given how it stands to the new one
+  -- what is sound stays so, given how it is to the new one
   carried : (j : ℕ) (v : Txn) → TxnIsSound size of j v
-      → (v.place ≡ 0 → new.place ≡ 0 → (key : List ℕ) → Stands v key → Stands new key → i ≡ j)
-      → (v.place ≡ 0 → (key : List ℕ) → Stands v key → Stands new key → new.place ≤ v.snapshot)
+      → (v.place ≡ 0 → new.place ≡ 0 → (key : List ℕ) → HasWritten v key → HasWritten new key → i ≡ j)
+      → (v.place ≡ 0 → (key : List ℕ) → HasWritten v key → HasWritten new key → new.place ≤ v.snapshot)
       → TxnIsSound size now j v
   carried j v h alone newest = sound-agree size size of now agree (omega arith) j v h
-      (λ undecided k u key among u_undecided stands u_stands.
-      each_either of i t rest is new (λ k u. u.place ≡ 0 → Stands u key → k ≡ j)
-      (λ is_undecided is_standing. alone undecided is_undecided key stands is_standing)
-      (λ k u there is_undecided is_standing. h.alone undecided k u key there is_undecided stands is_standing)
-      k u among u_undecided u_stands)
-      (λ undecided k u key among stands u_stands.
-      each_either of i t rest is new (λ k u. Stands u key → u.place ≤ v.snapshot)
-      (λ is_standing. newest undecided key stands is_standing)
-      (λ k u there is_standing. h.newest undecided k u key there stands is_standing)
-      k u among u_stands)
+      (record {
+        alone = λ undecided k u key among u_undecided written u_written.
+            each_either of i t rest is new (λ k u. u.place ≡ 0 → HasWritten u key → k ≡ j)
+            (λ is_undecided is_written. alone undecided is_undecided key written is_written)
+            (λ k u there is_undecided is_written. h.holds.alone undecided k u key there is_undecided written is_written)
+            k u among u_undecided u_written;
+        newest = λ undecided k u key among written u_written.
+            each_either of i t rest is new (λ k u. HasWritten u key → u.place ≤ v.snapshot)
+            (λ is_written. newest undecided key written is_written)
+            (λ k u there is_written. h.holds.newest undecided k u key there written is_written)
+            k u among u_written;
+      })
       (λ r among. named j v.snapshot r (h.refusals r among))
 
   module _ (new_sound : TxnIsSound size of i new) where
@@ -92,11 +95,11 @@ module _ (size : ℕ) (log : ℕ → ℕ) (of : ℕ → List Txn) (i : ℕ) (t n
     old_carried j v there =
         let h = s.each j v there in
         carried j v h
-        (λ undecided is_undecided key stands is_standing. sym (new_sound.alone is_undecided j v key there undecided is_standing stands))
-        (λ undecided key stands is_standing.
+        (λ undecided is_undecided key written is_written. sym (new_sound.holds.alone is_undecided j v key there undecided is_written written))
+        (λ undecided key written is_written.
         ⊎_elim (λ none. omega (arith, none, keeps.place))
-        (λ placed. let was : Stands t key = (is_standing.0, subst (λ (ws : List Write). Among (record { key = key; rec = is_standing.0 }) ws) (keeps.standing placed) is_standing.1) in
-        subst (λ p. p ≤ v.snapshot) (sym keeps.place) (h.newest undecided i t key (old_there of i t rest is) stands was))
+        (λ placed. let was : HasWritten t key = (is_written.0, subst (λ (ws : List Write). Among (record { key = key; rec = is_written.0 }) ws) (keeps.write_set placed) is_written.1) in
+        subst (λ p. p ≤ v.snapshot) (sym keeps.place) (h.holds.newest undecided i t key (old_there of i t rest is) written was))
         (cases_eq t.place 0))
 
     -- the newest transaction of a connection changes, and all is sound
@@ -128,6 +131,6 @@ module _ (size : ℕ) (log : ℕ → ℕ) (of : ℕ → List Txn) (i : ℕ) (t n
           j u among;
       in_order = each_but of i (new ∷ rest) (λ j ts. AreInOrder ts) (comes_after, (subst AreInOrder is (s.in_order i)).1) (λ j differ. s.in_order j);
       each = each_either of i t rest is new (λ j u. TxnIsSound size now j u)
-          (carried i new new_sound (λ undecided is_undecided key stands is_standing. refl) (λ undecided key stands is_standing. omega (arith, undecided)))
+          (carried i new new_sound (λ undecided is_undecided key written is_written. refl) (λ undecided key written is_written. omega (arith, undecided)))
           old_carried;
     }

@@ -1,6 +1,6 @@
 -- What is kept of an open transaction goes on matching its account as entries come.
 use Rattle.std.proofs.Common.{◌≡◌, ℕ, ◌<◌, max, true, false, List, [], ◌∷◌, refl, sym, ◌∙◌, ap, subst, arith, Option, Some, None}
-use Rattle.hc_core.specs.Account.{Txn, newest_changed, after_entry, after_put, after_check, part_of, WhenOpen, IsIdle, txns}
+use Rattle.hc_core.specs.Account.{KeyAsked, PartAsked, Txn, newest_changed, after_event, after_put, after_check, part_of, WhenOpen, IsIdle, txns}
 use Rattle.hc_core.specs.Diary.{entry_of}
 use Rattle.hc_core.specs.Running.{IsOpenIn, IsPutOrCheck, Matches, greatest_ord}
 use Rattle.hc_core.specs.declared.account.Entry.{Entry}
@@ -14,7 +14,7 @@ use Rattle.hc_core.proofs.Matching.{matches_refused}
 
 -- the transactions after an entry
 pub txns_entered : (after account : List Entry) (event same : Event) (outcome : Outcome)
-    → after ≡ entry_of event outcome ∷ account → event ≡ same → txns after ≡ after_entry same outcome (txns account)
+    → after ≡ entry_of event outcome ∷ account → event ≡ same → txns after ≡ after_event same outcome (txns account)
 txns_entered after account event same outcome e f = rw (e, f) refl
 
 -- no transaction is open and one is: that cannot be
@@ -48,7 +48,7 @@ greatest_drawn ord f P (t ∷ ts) h k above = rw (k t) (omega (arith, above))
 pub kept_open : (r new : Running) (kept : Option Running) (account after : List Entry) (event same : Event) (outcome : Outcome)
     (f : Txn → Txn) (last : ℕ) → kept ≡ Some r → IsOpenIn kept (txns account) → last ≡ greatest_ord (txns account)
     → after ≡ entry_of event outcome ∷ account → event ≡ same
-    → ((ts : List Txn) → after_entry same outcome ts ≡ newest_changed f ts) → ((t : Txn) → (f t).ord ≡ t.ord)
+    → ((ts : List Txn) → after_event same outcome ts ≡ newest_changed f ts) → ((t : Txn) → (f t).ord ≡ t.ord)
     → ((t : Txn) → t.ended ≡ false → Matches r t → ((f t).ended ≡ false) × Matches new (f t))
     → WhenOpen (txns after) (Matches new) × (last ≡ greatest_ord (txns after))
 kept_open r new kept account after event same outcome f last is h top entered form as_change ords step =
@@ -61,13 +61,13 @@ kept_open r new kept account after event same outcome f last is h top entered fo
 
 -- a refusal changes nothing of what is kept
 pub kept_refused : (event : Event) (met : MetRecord) (r : Running) (ts : List Txn) → IsPutOrCheck event → WhenOpen ts (Matches r)
-    → WhenOpen (after_entry event (Met met) ts) (Matches r) × (greatest_ord (after_entry event (Met met) ts) ≡ greatest_ord ts)
+    → WhenOpen (after_event event (Met met) ts) (Matches r) × (greatest_ord (after_event event (Met met) ts) ≡ greatest_ord ts)
 kept_refused (Put conn key rec) met r ts p h = (
-  when_changed (after_put key rec (Met met)) (Matches r) (Matches r) ts h (λ t e k. (e, matches_refused r t (record { by_check = false; met = met } ∷ t.refusals) k)),
+  when_changed (after_put key rec (Met met)) (Matches r) (Matches r) ts h (λ t e k. (e, matches_refused r t (record { asked = KeyAsked key; met = met } ∷ t.refusals) k)),
   greatest_kept (after_put key rec (Met met)) ts (λ t. refl),
 )
 kept_refused (Check conn from upto) met r ts p h = (
-  when_changed (after_check (part_of from upto) (Met met)) (Matches r) (Matches r) ts h (λ t e k. (e, matches_refused r t (record { by_check = true; met = met } ∷ t.refusals) k)),
+  when_changed (after_check (part_of from upto) (Met met)) (Matches r) (Matches r) ts h (λ t e k. (e, matches_refused r t (record { asked = PartAsked (part_of from upto); met = met } ∷ t.refusals) k)),
   greatest_kept (after_check (part_of from upto) (Met met)) ts (λ t. refl),
 )
 kept_refused (Begin conn) met r ts p h = absurd p

@@ -46,14 +46,14 @@ rest_from : (lo : List ℕ) (end : Option (List ℕ)) (ranges : List Range) (par
 rest_from lo end ranges part all = (
   λ key inside.
       let u = under_earlier part.hi lo key inside.1 in
-      ⊎_elim (λ here. absurd (true≢false (sym u.1 ∙ here.0))) (λ behind. behind) (all key (inside.0, u.0)),
+      ⊎_elim (λ here. absurd (true≢false (sym u.1 ∙ here.0))) (λ following. following) (all key (inside.0, u.0)),
   above end all,
 )
   where
     above : (e : Option (List ℕ)) → Includes (record { lo = lo; hi = e } ∷ ranges) part → IsRestIn ranges part e
     above None all = tt
     above (Some stop) all = λ key inside.
-        ⊎_elim (λ here. absurd (true≢false (sym here.1 ∙ at_most_trans stop (higher part.lo stop) key (higher_right part.lo stop) inside.0))) (λ behind. behind)
+        ⊎_elim (λ here. absurd (true≢false (sym here.1 ∙ at_most_trans stop (higher part.lo stop) key (higher_right part.lo stop) inside.0))) (λ following. following)
         (all key (at_most_trans part.lo (higher part.lo stop) key (higher_left part.lo stop) inside.0, inside.1))
 
 -- and the other way round
@@ -66,9 +66,9 @@ rest_into lo end ranges part rest key inside =
     (cases_Bool (is_below key lo))
   where
     above : (e : Option (List ℕ)) → IsRestIn ranges part e → is_below key lo ≡ false → InAny (record { lo = lo; hi = e } ∷ ranges) key
-    above None behind at_least = inl (at_least, refl)
-    above (Some stop) behind at_least =
-        ⊎_elim (λ under. inl (at_least, under)) (λ past. inr (behind key (higher_least part.lo stop key inside.0 past, inside.1))) (cases_Bool (is_below key stop))
+    above None following at_least = inl (at_least, refl)
+    above (Some stop) following at_least =
+        ⊎_elim (λ under. inl (at_least, under)) (λ past. inr (following key (higher_least part.lo stop key inside.0 past, inside.1))) (cases_Bool (is_below key stop))
 
 -- whether a range lies in ranges
 pub known_included : (ranges : List Range) (part : Range) → Known (Includes ranges part)

@@ -5,6 +5,7 @@ pub mod Decide
 pub mod Draw
 pub mod End
 pub mod Lost
+pub mod Noted
 pub mod Propose
 pub mod Put
 pub mod Read

@@ -57,8 +57,8 @@ pub known_each : {A : Type 0} (P : A → Type 0) (xs : List A) → ((x : A) → 
 known_each P [] known = inl (λ x there. absurd there)
 known_each P (y ∷ ys) known =
     known_as (P y × ((x : _) → Among x ys → P x)) ((x : _) → Among x (y ∷ ys) → P x)
-    (λ all x there. ⊎_elim (λ same. subst P (sym same) all.0) (λ behind. all.1 x behind) there)
-    (λ all. (all y (inl refl), λ x behind. all x (inr behind)))
+    (λ all x there. ⊎_elim (λ same. subst P (sym same) all.0) (λ following. all.1 x following) there)
+    (λ all. (all y (inl refl), λ x following. all x (inr following)))
     (known_both (P y) ((x : _) → Among x ys → P x) (known y) (known_each P ys known))
 
 -- the last one below n of the numbers with a fact

@@ -4,6 +4,7 @@ pub mod Changed
 pub mod Conns
 pub mod Counted
 pub mod Covered
+pub mod Cutting
 pub mod Elements
 pub mod Entered
 pub mod Kept
@@ -19,12 +20,12 @@ pub mod Named
 pub mod OneAnswer
 pub mod Ordered
 pub mod SoundRuns
-pub mod Standing
+pub mod WriteSets
 pub mod Steps
 pub mod Upheld
 pub mod Won
 pub mod Asked
-pub mod FirstVersion
+pub mod LatestVersion
 pub mod WorkedRuns
 pub mod Known
 pub mod Included

@@ -1,19 +1,19 @@
--- What questions to the log say of the transactions: what a check finds, what a put meets, and which version is first.
+-- What questions to the log say of the transactions: what a check finds, what a put meets, and which version is the latest.
 use Rattle.std.proofs.Common.{◌≡◌, ◌≢◌, ◌∙◌, inl, inr, ⊎_elim, refl, sym, ap, subst, ℕ, zero, suc, ◌+◌, ◌-◌, ◌<◌, ◌≤◌, true, false, Some, None, List, [], ◌∷◌, length, get_or, take, drop, arith}
 use Rattle.std.proofs.lemmas.Bool.{true≢false, cases_Bool, cases_lt}
 use Rattle.std.proofs.lemmas.List.{get_or_default, length-take}
 use Rattle.hc_range.specs.declared.range.Range.{Range}
 use Rattle.hc_core.specs.Lookup.{Among}
-use Rattle.hc_core.specs.Account.{Txn, Stands, WhenOpen}
-use Rattle.hc_core.specs.Versions.{IsFirstVersion, IsInTheWay, IsBetween, IsFound}
+use Rattle.hc_core.specs.Account.{Txn, HasWritten, WhenOpen}
+use Rattle.hc_core.specs.Versions.{IsLatestVersion, IsInTheWay, IsBetween, IsFound}
 use Rattle.hc_core.specs.Machine.{IsForgettable, IsFree, IsUnchanged}
 use Rattle.hc_core.specs.Running.{holds_key}
 use Rattle.hc_core.specs.Sound.{AreSound, AreInOrder}
 use Rattle.hc_core.specs.Commits.{AreCommits, IsLastWith, NoneIsWith, writes_at, holds_tombstone, is_in, least_of}
 use Rattle.hc_core.specs.declared.commit.Commit.{Commit}
 use Rattle.hc_core.proofs.Ordered.{after_each}
-use Rattle.hc_core.proofs.Standing.{nothing_stands}
-use Rattle.hc_core.proofs.LogEntries.{stands_at_place, tombstone_at_place, same_at_place, entry_is, holds_from, holds_into}
+use Rattle.hc_core.proofs.WriteSets.{nothing_written}
+use Rattle.hc_core.proofs.LogEntries.{written_at_place, tombstone_at_place, same_at_place, entry_is, holds_from, holds_into}
 use Rattle.hc_core.proofs.LogLeast.{IsLeast, IsPutBy, in_range, in_test, least_is, put_from, put_into}
 
 -- where nothing is between, nothing between put a key
@@ -26,7 +26,7 @@ open_newest P [] t ordered there opened p = there
 open_newest P (v ∷ ts) t ordered there opened p =
     ⊎_elim
     (λ (same : t ≡ v). subst (λ (x : Txn). (x.ended ≡ false) × P x) same (opened, p))
-    (λ behind. absurd (true≢false (sym (after_each v t ts ordered.0 behind).ended ∙ opened)))
+    (λ following. absurd (true≢false (sym (after_each v t ts ordered.0 following).ended ∙ opened)))
     there
 
 -- what is so of the open transaction is so of one that is there
@@ -60,50 +60,50 @@ last_of_front commits upto place key last =
     )
 
 module _ {size : ℕ} {log : ℕ → ℕ} {of : ℕ → List Txn} (s : AreSound size log of) where
-  -- a transaction that has something standing is decided, or it is open and undecided
-  pub writer_placed : (key : List ℕ) → ((j : ℕ) → WhenOpen (of j) (λ t. (t.place ≡ 0) × Stands t key) → ⊥)
-      → (j : ℕ) (u : Txn) → Among u (of j) → Stands u key → u.place ≢ 0
-  writer_placed key none_open j u there stands undecided =
+  -- a transaction that has something in its write set is decided, or it is open and undecided
+  pub writer_placed : (key : List ℕ) → ((j : ℕ) → WhenOpen (of j) (λ t. (t.place ≡ 0) × HasWritten t key) → ⊥)
+      → (j : ℕ) (u : Txn) → Among u (of j) → HasWritten u key → u.place ≢ 0
+  writer_placed key none_open j u there written undecided =
       ⊎_elim
-      (λ (ended : u.ended ≡ true). nothing_stands u ((s.each j u there).rolled_back ended undecided) key stands)
-      (λ opened. none_open j (open_newest (λ t. (t.place ≡ 0) × Stands t key) (of j) u (s.in_order j) there opened (undecided, stands)))
+      (λ (ended : u.ended ≡ true). nothing_written u ((s.each j u there).writes.rolled_back ended undecided) key written)
+      (λ opened. none_open j (open_newest (λ t. (t.place ≡ 0) × HasWritten t key) (of j) u (s.in_order j) there opened (undecided, written)))
       (cases_Bool u.ended)
 
   -- an open transaction that is undecided and has the key is in the way of another connection
-  pub open_in_the_way : (i snapshot : ℕ) (key : List ℕ) (j : ℕ) → j ≢ i → (P : Txn → Type 0) → WhenOpen (of j) (λ t. (t.place ≡ 0) × Stands t key × P t)
+  pub open_in_the_way : (i snapshot : ℕ) (key : List ℕ) (j : ℕ) → j ≢ i → (P : Txn → Type 0) → WhenOpen (of j) (λ t. (t.place ≡ 0) × HasWritten t key × P t)
       → (u : Txn) × IsInTheWay of i snapshot key j u × P u
   open_in_the_way i snapshot key j other P opened =
-      let o = open_there (λ t. (t.place ≡ 0) × Stands t key × P t) (of j) opened in
+      let o = open_there (λ t. (t.place ≡ 0) × HasWritten t key × P t) (of j) opened in
       (o.0, ((o.1, o.3.1, inl o.3.0), inl (o.3.0, other)), o.3.2)
 
   module _ (commits : List Commit) (are : AreCommits of 1 commits) (long : length commits ≡ size) where
     -- a commit's entry puts the keys that it put
-    placed_holds : (j : ℕ) (u : Txn) (key : List ℕ) → Among u (of j) → u.place ≢ 0 → Stands u key
+    placed_holds : (j : ℕ) (u : Txn) (key : List ℕ) → Among u (of j) → u.place ≢ 0 → HasWritten u key
         → (u.place - 1 < length commits) × (holds_key key (writes_at commits (u.place - 1)) ≡ true)
-    placed_holds j u key there placed stands =
+    placed_holds j u key there placed written =
         let at : u.place ≡ (u.place - 1) + 1 = omega arith in
-        ((same_at_place s commits are long j u (u.place - 1) there at).0, (stands_at_place s commits are long j u (u.place - 1) key there at).0 stands)
+        ((same_at_place s commits are long j u (u.place - 1) there at).0, (written_at_place s commits are long j u (u.place - 1) key there at).0 written)
 
     -- no commit that put a key is above the last entry with it
-    below_last : (key : List ℕ) (place : ℕ) → IsLastWith key commits place → (j : ℕ) (u : Txn) → Among u (of j) → Stands u key → u.place ≤ place + 1
-    below_last key place last j u there stands =
+    below_last : (key : List ℕ) (place : ℕ) → IsLastWith key commits place → (j : ℕ) (u : Txn) → Among u (of j) → HasWritten u key → u.place ≤ place + 1
+    below_last key place last j u there written =
         ⊎_elim (λ above. absurd (
         let placed : u.place ≢ 0 = (λ none. omega (arith, none, above)) in
-        let holds = placed_holds j u key there placed stands in
+        let holds = placed_holds j u key there placed written in
         true≢false (sym holds.1 ∙ last.2 (u.place - 1) (omega (arith, above)) holds.0)))
         (λ within. within) (cases_lt (place + 1) u.place)
 
-    -- the last entry with a key is that of a transaction in which it stands
-    last_stands : (key : List ℕ) (place : ℕ) (commit : Commit) → place < length commits → holds_key key (writes_at commits place) ≡ true → commit ≡ get_or commits place commit
-        → (u : Txn) × Among u (of commit.conn) × (u.place ≡ place + 1) × Stands u key × (u.id ≡ commit.tid) × (u.ord ≡ commit.ord)
-    last_stands key place commit within holds is =
+    -- the last entry with a key is that of a transaction in which it is
+    last_written : (key : List ℕ) (place : ℕ) (commit : Commit) → place < length commits → holds_key key (writes_at commits place) ≡ true → commit ≡ get_or commits place commit
+        → (u : Txn) × Among u (of commit.conn) × (u.place ≡ place + 1) × HasWritten u key × (u.id ≡ commit.tid) × (u.ord ≡ commit.ord)
+    last_written key place commit within holds is =
         let e = entry_is s commits are long place commit within is in
-        (e.0, e.1, e.2, (stands_at_place s commits are long commit.conn e.0 place key e.1 e.2).1 holds, e.3, e.4)
+        (e.0, e.1, e.2, (written_at_place s commits are long commit.conn e.0 place key e.1 e.2).1 holds, e.3, e.4)
 
     -- no commit put a key that no entry puts
-    none_stands : (key : List ℕ) → NoneIsWith key commits → (j : ℕ) (u : Txn) → Among u (of j) → Stands u key → u.place ≢ 0 → ⊥
-    none_stands key none j u there stands placed =
-        let holds = placed_holds j u key there placed stands in true≢false (sym holds.1 ∙ none (u.place - 1) holds.0)
+    none_written : (key : List ℕ) → NoneIsWith key commits → (j : ℕ) (u : Txn) → Among u (of j) → HasWritten u key → u.place ≢ 0 → ⊥
+    none_written key none j u there written placed =
+        let holds = placed_holds j u key there placed written in true≢false (sym holds.1 ∙ none (u.place - 1) holds.0)
 
     -- a commit between is an entry between
     between_put : (snapshot number : ℕ) (key : List ℕ) (j : ℕ) (u : Txn) → IsBetween of snapshot number key j u
@@ -130,7 +130,7 @@ module _ {size : ℕ} {log : ℕ → ℕ} {of : ℕ → List Txn} (s : AreSound 
         let least : IsLeast (λ k. (is_in part k ≡ true) × IsPutBy (drop snapshot (take (number - 1) commits)) k) (Some key) =
         subst (IsLeast (λ k. (is_in part k ≡ true) × IsPutBy (drop snapshot (take (number - 1) commits)) k)) is_least (least_is part (drop snapshot (take (number - 1) commits))) in
         let last = last_of_front commits (number - 1) place key is_last in
-        let e = last_stands key place commit last.1 last.2 is in
+        let e = last_written key place commit last.1 last.2 is in
         let put = put_into commits snapshot (number - 1) key least.0.1 in
         let above : snapshot ≤ place = ⊎_elim
         (λ later. absurd (true≢false (sym (holds_from key (writes_at commits put.0) put.4) ∙ last.3 put.0 later put.2 put.3)))
@@ -151,28 +151,28 @@ module _ {size : ℕ} {log : ℕ → ℕ} {of : ℕ → List Txn} (s : AreSound 
           e.5,
         )
 
-    module _ (key : List ℕ) (none_open : (j : ℕ) → WhenOpen (of j) (λ t. (t.place ≡ 0) × Stands t key) → ⊥) where
+    module _ (key : List ℕ) (none_open : (j : ℕ) → WhenOpen (of j) (λ t. (t.place ≡ 0) × HasWritten t key) → ⊥) where
       -- a put meets nothing where no open transaction has the key, and no entry
       pub none_is_free : NoneIsWith key commits → (i snapshot : ℕ) → IsFree of i snapshot key
-      none_is_free none i snapshot j u there stands = absurd (none_stands key none j u there stands (writer_placed key none_open j u there stands))
+      none_is_free none i snapshot j u there written = absurd (none_written key none j u there written (writer_placed key none_open j u there written))
 
       -- nor where the last entry with the key is not above the snapshot
       pub newest_is_free : (place : ℕ) → IsLastWith key commits place → (i snapshot : ℕ) → place + 1 ≤ snapshot → IsFree of i snapshot key
-      newest_is_free place last i snapshot below j u there stands =
-          (inl (writer_placed key none_open j u there stands), omega (arith, below_last key place last j u there stands, below))
+      newest_is_free place last i snapshot below j u there written =
+          (inl (writer_placed key none_open j u there written), omega (arith, below_last key place last j u there written, below))
 
       -- the last entry with a key has its first version, where no open transaction has one
       pub newest_is_first : (place : ℕ) (commit : Commit) → IsLastWith key commits place → commit ≡ get_or commits place commit
-          → (u : Txn) × IsFirstVersion of key commit.conn u × (u.place ≡ place + 1) × (u.id ≡ commit.tid) × (u.ord ≡ commit.ord)
+          → (u : Txn) × IsLatestVersion of key commit.conn u × (u.place ≡ place + 1) × (u.id ≡ commit.tid) × (u.ord ≡ commit.ord)
       newest_is_first place commit last is =
-          let e = last_stands key place commit last.0 last.1 is in (
+          let e = last_written key place commit last.0 last.1 is in (
             e.0,
             (
               e.1,
               e.3,
               inr (
                 (λ none. omega (arith, none, e.2)),
-                λ j v there stands. (writer_placed key none_open j v there stands, omega (arith, below_last key place last j v there stands, e.2)),
+                λ j v there written. (writer_placed key none_open j v there written, omega (arith, below_last key place last j v there written, e.2)),
               ),
             ),
             e.2,
@@ -201,22 +201,22 @@ module _ {size : ℕ} {log : ℕ → ℕ} {of : ℕ → List Txn} (s : AreSound 
             λ i t there opened. omega (arith, seen i t there opened, f.2),
           )
 
-    -- a forgettable key stands put in no open undecided transaction
-    pub forgettable_closed : (key : List ℕ) → IsForgettable of key → (j : ℕ) → WhenOpen (of j) (λ t. (t.place ≡ 0) × Stands t key) → ⊥
+    -- a forgettable key is in the write set of no open undecided transaction
+    pub forgettable_closed : (key : List ℕ) → IsForgettable of key → (j : ℕ) → WhenOpen (of j) (λ t. (t.place ≡ 0) × HasWritten t key) → ⊥
     forgettable_closed key f j opened =
-        let o = open_there (λ t. (t.place ≡ 0) × Stands t key) (of j) opened in
+        let o = open_there (λ t. (t.place ≡ 0) × HasWritten t key) (of j) opened in
         ⊎_elim (λ none. f.3 none) (λ placed. (placed.1 j o.0 o.1 o.3.1).0 o.3.0) f.2.2
 
     -- some entry puts it
     pub forgettable_logged : (key : List ℕ) → IsForgettable of key → NoneIsWith key commits → ⊥
-    forgettable_logged key f none = none_stands key none f.0 f.1 f.2.0 f.2.1 f.3
+    forgettable_logged key f none = none_written key none f.0 f.1 f.2.0 f.2.1 f.3
 
     -- and the last one puts a tombstone, which each open transaction sees
     pub forgettable_last : (key : List ℕ) (place : ℕ) → IsForgettable of key → IsLastWith key commits place
         → (holds_tombstone key (writes_at commits place) ≡ true) × ((i : ℕ) (t : Txn) → Among t (of i) → t.ended ≡ false → place + 1 ≤ t.snapshot)
     forgettable_last key place f last =
         let w = there_is commits place last.0 in
-        let e = last_stands key place w.0 last.0 last.1 w.1 in
+        let e = last_written key place w.0 last.0 last.1 w.1 in
         let greatest : e.0.place ≤ f.1.place = ⊎_elim (λ none. absurd (f.3 none)) (λ placed. (placed.1 w.0.conn e.0 e.1 e.3).1) f.2.2 in
         let at : f.1.place ≡ place + 1 = omega (arith, greatest, e.2, below_last key place last f.0 f.1 f.2.0 f.2.1) in
         ((tombstone_at_place s commits are long f.0 f.1 place key f.2.0 at).0 f.4, λ i t there opened. omega (arith, f.5 i t there opened, at))

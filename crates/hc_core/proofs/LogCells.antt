@@ -21,19 +21,19 @@ HasOneEach ws = (key : List ℕ) (a b : Option (List ℕ)) → Among (record { k
 
 absent_none : (key : List ℕ) (ws : List Write) → IsAbsent key ws → (rec : Option (List ℕ)) → Among (record { key = key; rec = rec }) ws → ⊥
 absent_none key [] none rec there = there
-absent_none key (w ∷ ws) none rec there = ⊎_elim (λ same. none.0 (sym (ap (λ (v : Write). v.key) same))) (λ behind. absent_none key ws none.1 rec behind) there
+absent_none key (w ∷ ws) none rec there = ⊎_elim (λ same. none.0 (sym (ap (λ (v : Write). v.key) same))) (λ following. absent_none key ws none.1 rec following) there
 
 absent_as : (key : List ℕ) (w : Write) (ws : List Write) → IsAbsent w.key ws → (a b : Option (List ℕ)) → record { key = key; rec = a } ≡ w → Among (record { key = key; rec = b }) ws → ⊥
 absent_as key w ws none a b same there =
     absent_none w.key ws none b (subst (λ (k : List ℕ). Among (record { key = k; rec = b }) ws) (ap (λ (v : Write). v.key) same) there)
 
--- where each key stands once it has one record or tombstone
+-- where each key is written once it has one record or tombstone
 pub once_one : (ws : List Write) → HasEachOnce ws → HasOneEach ws
 once_one [] once key a b a_there b_there = absurd a_there
 once_one (w ∷ ws) once key a b a_there b_there =
     ⊎_elim
-    (λ a_first. ⊎_elim (λ b_first. ap (λ (v : Write). v.rec) (a_first ∙ sym b_first)) (λ b_behind. absurd (absent_as key w ws once.0 a b a_first b_behind)) b_there)
-    (λ a_behind. ⊎_elim (λ b_first. absurd (absent_as key w ws once.0 b a b_first a_behind)) (λ b_behind. once_one ws once.1 key a b a_behind b_behind) b_there)
+    (λ a_first. ⊎_elim (λ b_first. ap (λ (v : Write). v.rec) (a_first ∙ sym b_first)) (λ b_later. absurd (absent_as key w ws once.0 a b a_first b_later)) b_there)
+    (λ a_later. ⊎_elim (λ b_first. absurd (absent_as key w ws once.0 b a b_first a_later)) (λ b_later. once_one ws once.1 key a b a_later b_later) b_there)
     a_there
 
 set_if : (b : Bool) (w : Write) (cells : List Cell) → AreAscending cells → (k r : List ℕ)
@@ -74,7 +74,7 @@ with_exact range cells [] ascending one k r = (
 )
 with_exact range cells (w ∷ ws) ascending one k r =
     let now = set_if (is_in range w.key) w cells ascending k r in
-    let behind = with_exact range (cond (is_in range w.key) (set_cell w.key w.rec cells) cells) ws (if_ascending range w cells ascending)
+    let following = with_exact range (cond (is_in range w.key) (set_cell w.key w.rec cells) cells) ws (if_ascending range w cells ascending)
     (λ key a b a_there b_there. one key a b (inr a_there) (inr b_there)) k r in (
       λ there. ⊎_elim
           (λ here. inl (here.0, inr here.1))
@@ -90,8 +90,8 @@ with_exact range cells (w ∷ ws) ascending one k r =
             rest.1,
           ))
           (now.0 other.1))
-          (behind.0 there),
-      λ written. behind.1 (⊎_elim
+          (following.0 there),
+      λ written. following.1 (⊎_elim
           (λ here. ⊎_elim
           (λ same. ⊎_elim
           (λ held. let h = holds_into k ws held in
@@ -158,7 +158,7 @@ module _ {size : ℕ} {log : ℕ → ℕ} {of : ℕ → List Txn} (s : AreSound 
   one_each : (k : ℕ) → k < length commits → HasOneEach (writes_at commits k)
   one_each k within key a b a_there b_there =
       let w = writer_at of commits 1 k are within in
-      once_one w.1.standing (s.each w.0 w.1 w.2).once key a b ((w.4 (record { key = key; rec = a })).0 a_there) ((w.4 (record { key = key; rec = b })).0 b_there)
+      once_one w.1.write_set (s.each w.0 w.1 w.2).writes.once key a b ((w.4 (record { key = key; rec = a })).0 a_there) ((w.4 (record { key = key; rec = b })).0 b_there)
 
   entry_puts : (k : ℕ) → k < length commits → (key : List ℕ) (rec : Option (List ℕ))
       → PutAt of (k + 1) key rec ↔ Among (record { key = key; rec = rec }) (writes_at commits k)

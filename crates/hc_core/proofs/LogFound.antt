@@ -3,7 +3,7 @@ use Rattle.std.proofs.Common.{◌≡◌, ◌∙◌, ⊎_elim, refl, sym, ap, sub
 use Rattle.std.proofs.lemmas.Bool.{true≢false}
 use Rattle.std.proofs.lemmas.List.{length-take}
 use Rattle.hc_range.specs.declared.range.Range.{Range}
-use Rattle.hc_core.specs.Account.{Txn, Stands, WhenOpen}
+use Rattle.hc_core.specs.Account.{Txn, HasWritten, WhenOpen}
 use Rattle.hc_core.specs.Versions.{IsInTheWay, IsFound}
 use Rattle.hc_core.specs.Machine.{IsForgettable, IsFree, IsUnchanged, Names}
 use Rattle.hc_core.specs.Running.{holds_key}
@@ -51,7 +51,7 @@ module _ {size : ℕ} {log : ℕ → ℕ} {of : ℕ → List Txn} (s : AreSound 
   pub check_none : (snapshot number : ℕ) (part : Range) → least_between snapshot number part commits ≡ None → IsUnchanged of snapshot number part
   check_none snapshot number part none = none_found s commits are long snapshot number part none
 
-  module _ (key : List ℕ) (none_open : (j : ℕ) → WhenOpen (of j) (λ t. (t.place ≡ 0) × Stands t key) → ⊥) where
+  module _ (key : List ℕ) (none_open : (j : ℕ) → WhenOpen (of j) (λ t. (t.place ≡ 0) × HasWritten t key) → ⊥) where
     -- what a put meets in the log
     pub put_met : (i snapshot : ℕ) (met : Met) → IsMetAbove snapshot key commits met → (j : ℕ) × (u : Txn) × IsInTheWay of i snapshot key j u × Names met j u key
     put_met i snapshot met above =

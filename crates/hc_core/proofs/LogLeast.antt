@@ -70,10 +70,10 @@ least_writes P range best (w ∷ ws) least =
     (λ key. (
       λ p. ⊎_elim
           (λ first. ⊎_elim (λ was. inl was) (λ here. inr (here.0, (w.rec, inl (ap (λ (k : List ℕ). record { key = k; rec = w.rec }) here.1)))) first)
-          (λ behind. inr (behind.0, (behind.1.0, inr behind.1.1))) p,
+          (λ following. inr (following.0, (following.1.0, inr following.1.1))) p,
       λ p. ⊎_elim
           (λ was. inl (inl was))
-          (λ held. ⊎_elim (λ here. inl (inr (held.0, ap (λ (v : Write). v.key) here))) (λ behind. inr (held.0, (held.1.0, behind))) held.1.1) p,
+          (λ held. ⊎_elim (λ here. inl (inr (held.0, ap (λ (v : Write). v.key) here))) (λ following. inr (held.0, (held.1.0, following))) held.1.1) p,
     ))
     (least_writes (λ key. P key ⊎ ((is_in range key ≡ true) × (key ≡ w.key))) range (cond (is_in range w.key) (lesser best w.key) best) ws (least_more P range best w.key least))
 
@@ -93,10 +93,10 @@ least_entries P range best (commit ∷ commits) least =
     (λ key. (
       λ p. ⊎_elim
           (λ first. ⊎_elim (λ was. inl was) (λ here. inr (here.0, inl here.1)) first)
-          (λ behind. inr (behind.0, inr behind.1)) p,
+          (λ following. inr (following.0, inr following.1)) p,
       λ p. ⊎_elim
           (λ was. inl (inl was))
-          (λ held. ⊎_elim (λ here. inl (inr (held.0, here))) (λ behind. inr (held.0, behind)) held.1) p,
+          (λ held. ⊎_elim (λ here. inl (inr (held.0, here))) (λ following. inr (held.0, following)) held.1) p,
     ))
     (least_entries (λ key. P key ⊎ ((is_in range key ≡ true) × HoldsKey commit.writes.items key)) range (least_with range best commit.writes.items) commits (least_writes P range best commit.writes.items least))
 
@@ -122,7 +122,7 @@ put_into (commit ∷ commits) (suc from) zero key put = absurd put
 put_into (commit ∷ commits) zero (suc upto) key put =
     ⊎_elim
     (λ here. (0, omega arith, omega arith, omega arith, here))
-    (λ behind. let p = put_into commits zero upto key behind in (suc p.0, omega arith, omega (arith, p.2), omega (arith, p.3), p.4))
+    (λ following. let p = put_into commits zero upto key following in (suc p.0, omega arith, omega (arith, p.2), omega (arith, p.3), p.4))
     put
 put_into (commit ∷ commits) (suc from) (suc upto) key put =
     let p = put_into commits from upto key put in (suc p.0, omega (arith, p.1), omega (arith, p.2), omega (arith, p.3), p.4)

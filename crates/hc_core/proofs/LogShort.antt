@@ -1,7 +1,7 @@
--- The keys that the log puts are short where those that stand put in transactions are.
+-- The keys that the log puts are short where those in the write sets of transactions are.
 use Rattle.std.proofs.Common.{inl, inr, refl, ℕ, zero, suc, ◌+◌, ◌≤◌, List, [], ◌∷◌, length, take, drop}
 use Rattle.hc_core.specs.Lookup.{Among}
-use Rattle.hc_core.specs.Account.{Txn, HoldsKey, Stands}
+use Rattle.hc_core.specs.Account.{Txn, HoldsKey, HasWritten}
 use Rattle.hc_core.specs.Commits.{AreCommits, AreShort, AreShortWrites}
 use Rattle.hc_core.specs.declared.cells.Write.{Write}
 use Rattle.hc_core.specs.declared.commit.Commit.{Commit}
@@ -13,7 +13,7 @@ short_writes (w ∷ ws) each = (each w.key (w.rec, inl refl), short_writes ws (�
 
 -- the log's keys are short
 pub short_logged : (of : ℕ → List Txn) (c : ℕ) (commits : List Commit) → AreCommits of c commits
-    → ((i : ℕ) (t : Txn) (key : List ℕ) → Among t (of i) → Stands t key → length key ≤ 463) → AreShort commits
+    → ((i : ℕ) (t : Txn) (key : List ℕ) → Among t (of i) → HasWritten t key → length key ≤ 463) → AreShort commits
 short_logged of c [] are each = tt
 short_logged of c (commit ∷ commits) are each = (
   short_writes commit.writes.items
@@ -27,7 +27,7 @@ short_take commits zero short = tt
 short_take [] (suc n) short = tt
 short_take (commit ∷ commits) (suc n) short = (short.0, short_take commits n short.1)
 
--- and so are those of what stands behind its first n entries
+-- and so are those of the entries after its first n
 pub short_drop : (commits : List Commit) (n : ℕ) → AreShort commits → AreShort (drop n commits)
 short_drop commits zero short = short
 short_drop [] (suc n) short = tt

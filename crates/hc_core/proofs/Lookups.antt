@@ -41,19 +41,19 @@ module _ {A : Type 0} (of : ℕ → List A) (i : ℕ) (new : A) (rest : List A) 
   pub others_here : (j : ℕ) (u : A) → i ≢ j → Among u (of j) → Among u (but of i (new ∷ rest) j)
   others_here j u differ there = subst (Among u) (sym (but-other of i j (new ∷ rest) differ)) there
 
-  -- what holds of the new one, of each behind it and of each elsewhere holds of each
+  -- what holds of the new one, of each after it and of each elsewhere holds of each
   pub each_new : (P : ℕ → A → Type 0) → P i new → ((u : A) → Among u rest → P i u) → ((j : ℕ) (u : A) → i ≢ j → Among u (of j) → P j u)
       → (j : ℕ) (u : A) → Among u (but of i (new ∷ rest) j) → P j u
-  each_new P first behind others j u among =
+  each_new P first following others j u among =
       ⊎_elim (λ (same : i ≡ j). subst (λ k. (v : A) → Among v (but of i (new ∷ rest) k) → P k v) same here u among)
       (λ differ. others j u differ (subst (Among u) (but-other of i j (new ∷ rest) differ) among))
       (cases_eq i j)
     where
       here : (v : A) → Among v (but of i (new ∷ rest) i) → P i v
       here v v_among =
-          ⊎_elim (λ e. subst (P i) (sym e) first) (λ there. behind v there) (subst (Among v) (but-same of i (new ∷ rest)) v_among)
+          ⊎_elim (λ e. subst (P i) (sym e) first) (λ there. following v there) (subst (Among v) (but-same of i (new ∷ rest)) v_among)
 
--- where the rest is what stood behind t
+-- where the rest is what was after t
 module _ {A : Type 0} (of : ℕ → List A) (i : ℕ) (t : A) (rest : List A) (is : of i ≡ t ∷ rest) where
   -- t is in i's old list
   pub old_there : Among t (of i)
@@ -63,22 +63,22 @@ module _ {A : Type 0} (of : ℕ → List A) (i : ℕ) (t : A) (rest : List A) (i
   pub rest_there : (u : A) → Among u rest → Among u (of i)
   rest_there u there = subst (Among u) (sym is) (inr there)
 
-  -- what holds of t, of each behind it and of each elsewhere holds of each
+  -- what holds of t, of each after it and of each elsewhere holds of each
   pub each_old : (P : ℕ → A → Type 0) → P i t → ((u : A) → Among u rest → P i u) → ((j : ℕ) (u : A) → i ≢ j → Among u (of j) → P j u)
       → (j : ℕ) (u : A) → Among u (of j) → P j u
-  each_old P first behind others j u among =
+  each_old P first following others j u among =
       ⊎_elim (λ (same : i ≡ j). subst (λ k. (v : A) → Among v (of k) → P k v) same here u among)
       (λ differ. others j u differ among)
       (cases_eq i j)
     where
       here : (v : A) → Among v (of i) → P i v
-      here v v_among = ⊎_elim (λ e. subst (P i) (sym e) first) (λ there. behind v there) (subst (Among v) is v_among)
+      here v v_among = ⊎_elim (λ e. subst (P i) (sym e) first) (λ there. following v there) (subst (Among v) is v_among)
 
   -- what holds of the new one and of each old one holds of each
   pub each_either : (new : A) (P : ℕ → A → Type 0) → P i new → ((j : ℕ) (u : A) → Among u (of j) → P j u) → (j : ℕ) (u : A) → Among u (but of i (new ∷ rest) j) → P j u
   each_either new P first others = each_new of i new rest P first (λ u there. others i u (rest_there u there)) (λ j u differ there. others j u there)
 
--- where the rest is all that stood
+-- where the rest is all that was
 module _ {A : Type 0} (of : ℕ → List A) (i : ℕ) (new : A) where
   -- what holds of the new one and of each old one holds of each
   pub each_grown : (P : ℕ → A → Type 0) → P i new → ((j : ℕ) (u : A) → Among u (of j) → P j u) → (j : ℕ) (u : A) → Among u (but of i (new ∷ of i) j) → P j u

@@ -71,11 +71,11 @@ matches_proposal r new number t is h =
       writes = h.writes;
     })
 
--- other writes, and what stands put changed with them; what was put counts for nothing here
-matches_writes : (r : Running) (kept : Vec Write Global) (t : Txn) (standing puts : List Write)
-    → (t.place ≡ 0 → HaveSameWrites kept.items standing) → Matches r t
-    → Matches (record r { writes = kept }) (record t { standing = standing; puts = puts })
-matches_writes r kept t standing puts same h = record {
+-- other writes, and what is in the write set changed with them; what was put counts for nothing here
+matches_writes : (r : Running) (kept : Vec Write Global) (t : Txn) (write_set puts : List Write)
+    → (t.place ≡ 0 → HaveSameWrites kept.items write_set) → Matches r t
+    → Matches (record r { writes = kept }) (record t { write_set = write_set; puts = puts })
+matches_writes r kept t write_set puts same h = record {
   id = h.id;
   ord = h.ord;
   snapshot = h.snapshot;
@@ -89,7 +89,7 @@ matches_writes r kept t standing puts same h = record {
 -- what is kept, with a write more, matches the transaction after its put
 pub matches_put : (r : Running) (kept : Vec Write Global) (w : Write) (t : Txn) → kept.items ≡ r.writes.items ++ w ∷ [] → Matches r t
     → Matches (record r { writes = kept }) (after_put w.key w.rec Done t)
-matches_put r kept w t e h = matches_writes r kept t (w ∷ t.standing) (w ∷ t.puts)
+matches_put r kept w t e h = matches_writes r kept t (w ∷ t.write_set) (w ∷ t.puts)
     (λ undecided x. let old = h.writes undecided x in let push = among_push x w r.writes.items in
     rw e (
       (λ a. elim (push.0 a) [ inl s ↦ inl s | inr b ↦ inr (old.0 b) ]),
@@ -114,17 +114,17 @@ matches_decided r kept number t some h = record {
 -- what is kept, without the writes of a key, matches the transaction after the key is taken out
 pub matches_unput : (r : Running) (kept : Vec Write Global) (key : List ℕ) (t : Txn) → kept.items ≡ without key r.writes.items → Matches r t
     → Matches (record r { writes = kept }) (after_unput key Done t)
-matches_unput r kept key t e h = matches_writes r kept t (without key t.standing) t.puts
+matches_unput r kept key t e h = matches_writes r kept t (without key t.write_set) t.puts
     (λ undecided x. let old = h.writes undecided x in
     let here = among_filter (λ (w : Write). not (bytes_eq w.key key)) x r.writes.items in
-    let there = among_filter (λ (w : Write). not (bytes_eq w.key key)) x t.standing in
+    let there = among_filter (λ (w : Write). not (bytes_eq w.key key)) x t.write_set in
     rw e ((λ a. there.1 (old.0 (here.0 a).0, (here.0 a).1)), λ a. here.1 (old.1 (there.0 a).0, (there.0 a).1)))
     h
 
 -- a vector with the same writes will do
 pub matches_same : (r : Running) (kept : Vec Write Global) (t : Txn) → kept.items ≡ r.writes.items → Matches r t
     → Matches (record r { writes = kept }) t
-matches_same r kept t e h = matches_writes r kept t t.standing t.puts (λ undecided. rw e (h.writes undecided)) h
+matches_same r kept t e h = matches_writes r kept t t.write_set t.puts (λ undecided. rw e (h.writes undecided)) h
 
 -- refusals count for nothing here
 pub matches_refused : (r : Running) (t : Txn) (refusals : List Refusal) → Matches r t → Matches r (record t { refusals = refusals })

@@ -4,8 +4,8 @@ use Rattle.std.proofs.lemmas.Bool.{true≢false}
 use Rattle.hc_range.specs.Order.{is_below}
 use Rattle.hc_range.specs.declared.range.Range.{Range}
 use Rattle.hc_core.specs.Lookup.{Among}
-use Rattle.hc_core.specs.Account.{Txn, Stands, part_of, WhenOpen}
-use Rattle.hc_core.specs.Versions.{AreCellsAfter, AreAscending, IsBelowEach, IsFirstVersion, IsInTheWay, IsBetween, IsFound}
+use Rattle.hc_core.specs.Account.{Txn, HasWritten, part_of, WhenOpen}
+use Rattle.hc_core.specs.Versions.{AreCellsAfter, AreAscending, IsBelowEach, IsLatestVersion, IsInTheWay, IsBetween, IsFound}
 use Rattle.hc_core.specs.Machine.{Machine, Names, txns_of, IsFree, IsAnswer, IsPutAnswer, IsCheckAnswer, IsDecideAnswer, Answers}
 use Rattle.hc_core.specs.Sound.{AreSound, IsSound}
 use Rattle.hc_core.specs.declared.cells.Cell.{Cell}
@@ -17,17 +17,17 @@ use Rattle.hc_core.specs.declared.outcome.Outcome.TheVariants.{Cells, Met}
 use Rattle.hc_range.proofs.ByteOrder.{below_irrefl, below_flip, same_from_neither}
 use Rattle.hc_core.proofs.Ordered.{one_place, newest_or_older}
 use Rattle.hc_core.proofs.Lookups.{rest_there}
-use Rattle.hc_core.proofs.Standing.{nothing_stands}
+use Rattle.hc_core.proofs.WriteSets.{nothing_written}
 
--- a key is below that of each cell that stands behind it
+-- a key is below that of each cell after it
 below_each : (key : List ℕ) (cells : List Cell) (cell : Cell) → IsBelowEach key cells → Among cell cells → is_below key cell.key ≡ true
 below_each key [] cell below there = elim there [ ]
 below_each key (c ∷ cells) cell below there =
-    ⊎_elim (λ same. subst (λ (d : Cell). is_below key d.key ≡ true) (sym same) below.0) (λ behind. below_each key cells cell below.1 behind) there
+    ⊎_elim (λ same. subst (λ (d : Cell). is_below key d.key ≡ true) (sym same) below.0) (λ following. below_each key cells cell below.1 following) there
 
--- a cell does not stand behind itself
-not_behind : (cell : Cell) (cells : List Cell) → IsBelowEach cell.key cells → Among cell cells → ⊥
-not_behind cell cells below there = true≢false (sym (below_each cell.key cells cell below there) ∙ below_irrefl cell.key)
+-- a cell is not after itself
+not_following : (cell : Cell) (cells : List Cell) → IsBelowEach cell.key cells → Among cell cells → ⊥
+not_following cell cells below there = true≢false (sym (below_each cell.key cells cell below there) ∙ below_irrefl cell.key)
 
 -- two lists that ascend and have the same cells are one
 ascending_one : (xs ys : List Cell) → AreAscending xs → AreAscending ys → ((cell : Cell) → Among cell xs → Among cell ys) → ((cell : Cell) → Among cell ys → Among cell xs) → xs ≡ ys
@@ -37,14 +37,14 @@ ascending_one (x ∷ xs) [] x_up y_up there back = absurd (there x (inl refl))
 ascending_one (x ∷ xs) (y ∷ ys) x_up y_up there back =
     ap₂ (λ (c : Cell) (cs : List Cell). c ∷ cs) first
     (ascending_one xs ys x_up.1 y_up.1
-    (λ cell behind. ⊎_elim (λ (same : cell ≡ y). absurd (not_behind x xs x_up.0 (subst (λ (c : Cell). Among c xs) (same ∙ sym first) behind))) (λ y_behind. y_behind) (there cell (inr behind)))
-    (λ cell behind. ⊎_elim (λ (same : cell ≡ x). absurd (not_behind y ys y_up.0 (subst (λ (c : Cell). Among c ys) (same ∙ first) behind))) (λ x_behind. x_behind) (back cell (inr behind))))
+    (λ cell following. ⊎_elim (λ (same : cell ≡ y). absurd (not_following x xs x_up.0 (subst (λ (c : Cell). Among c xs) (same ∙ sym first) following))) (λ y_following. y_following) (there cell (inr following)))
+    (λ cell following. ⊎_elim (λ (same : cell ≡ x). absurd (not_following y ys y_up.0 (subst (λ (c : Cell). Among c ys) (same ∙ first) following))) (λ x_following. x_following) (back cell (inr following))))
   where
     first : x ≡ y
     first =
         ⊎_elim (λ same. same)
-        (λ x_behind. ⊎_elim (λ same. sym same)
-        (λ y_behind. absurd (true≢false (sym (below_each x.key xs y x_up.0 y_behind) ∙ below_flip y.key x.key (below_each y.key ys x y_up.0 x_behind))))
+        (λ x_following. ⊎_elim (λ same. sym same)
+        (λ y_following. absurd (true≢false (sym (below_each x.key xs y x_up.0 y_following) ∙ below_flip y.key x.key (below_each y.key ys x y_up.0 x_following))))
         (back y (inl refl)))
         (there x (inl refl))
 
@@ -66,24 +66,24 @@ names_one one other j k u v key at same_conn same_txn same_key a b =
 
 module _ {size : ℕ} {log : ℕ → ℕ} {of : ℕ → List Txn} (s : AreSound size log of) where
   -- of a connection only the newest transaction has puts that are undecided
-  open_one : (j : ℕ) (u v : Txn) (key : List ℕ) → Among u (of j) → Among v (of j) → u.place ≡ 0 → v.place ≡ 0 → Stands u key → Stands v key → u ≡ v
-  open_one j u v key u_there v_there u_open v_open u_stands v_stands = by_list (of j) refl u_there
+  open_one : (j : ℕ) (u v : Txn) (key : List ℕ) → Among u (of j) → Among v (of j) → u.place ≡ 0 → v.place ≡ 0 → HasWritten u key → HasWritten v key → u ≡ v
+  open_one j u v key u_there v_there u_open v_open u_written v_stands = by_list (of j) refl u_there
     where
       by_list : (ts : List Txn) → of j ≡ ts → Among u ts → u ≡ v
       by_list [] is there = elim there [ ]
       by_list (t ∷ rest) is there =
-          let is_newest : (w : Txn) → Among w (of j) → w.place ≡ 0 → Stands w key → w ≡ t =
-          newest_or_older s j t rest is (λ w. w.place ≡ 0 → Stands w key → w ≡ t) (λ w_open stands. refl)
-          (λ w behind after w_open stands. absurd (nothing_stands w ((s.each j w (rest_there of j t rest is w behind)).rolled_back after.ended w_open) key stands)) in
-          is_newest u u_there u_open u_stands ∙ sym (is_newest v v_there v_open v_stands)
+          let is_newest : (w : Txn) → Among w (of j) → w.place ≡ 0 → HasWritten w key → w ≡ t =
+          newest_or_older s j t rest is (λ w. w.place ≡ 0 → HasWritten w key → w ≡ t) (λ w_open written. refl)
+          (λ w following after w_open written. absurd (nothing_written w ((s.each j w (rest_there of j t rest is w following)).writes.rolled_back after.ended w_open) key written)) in
+          is_newest u u_there u_open u_written ∙ sym (is_newest v v_there v_open v_stands)
 
   -- the first version of a key is determined
-  pub first_one : (key : List ℕ) (j k : ℕ) (u v : Txn) → IsFirstVersion of key j u → IsFirstVersion of key k v → (j ≡ k) × (u ≡ v)
+  pub first_one : (key : List ℕ) (j k : ℕ) (u v : Txn) → IsLatestVersion of key j u → IsLatestVersion of key k v → (j ≡ k) × (u ≡ v)
   first_one key j k u v a b =
       ⊎_elim
       (λ (u_open : u.place ≡ 0). ⊎_elim
       (λ (v_open : v.place ≡ 0).
-      let here : k ≡ j = (s.each j u a.0).alone u_open k v key b.0 v_open a.1 b.1 in
+      let here : k ≡ j = (s.each j u a.0).holds.alone u_open k v key b.0 v_open a.1 b.1 in
       (sym here, open_one j u v key a.0 (subst (λ n. Among v (of n)) here b.0) u_open v_open a.1 b.1))
       (λ v_first. absurd ((v_first.1 j u a.0 a.1).0 u_open)) b.2)
       (λ u_first. ⊎_elim

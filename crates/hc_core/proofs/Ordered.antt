@@ -8,7 +8,7 @@ use Rattle.hc_core.proofs.Lookups.{each_but}
 -- a transaction comes after each of the list
 pub after_each : (t u : Txn) (rest : List Txn) → ComesAfterEach t rest → Among u rest → ComesAfter t u
 after_each t u [] each there = elim there [ ]
-after_each t u (v ∷ rest) each there = ⊎_elim (λ same. subst (ComesAfter t) (sym same) each.0) (λ behind. after_each t u rest each.1 behind) there
+after_each t u (v ∷ rest) each there = ⊎_elim (λ same. subst (ComesAfter t) (sym same) each.0) (λ following. after_each t u rest each.1 following) there
 
 -- and the other way round
 pub each_after : (t : Txn) (rest : List Txn) → ((u : Txn) → Among u rest → ComesAfter t u) → ComesAfterEach t rest
@@ -21,16 +21,16 @@ same_id t u [] ordered there u_there drawn same = elim there [ ]
 same_id t u (v ∷ ts) ordered there u_there drawn same =
     ⊎_elim
     (λ (first : t ≡ v). ⊎_elim (λ (u_first : u ≡ v). first ∙ sym u_first)
-    (λ behind. absurd ((after_each t u ts (subst (λ w. ComesAfterEach w ts) (sym first) ordered.0) behind).id drawn (sym same))) u_there)
-    (λ behind. ⊎_elim
-    (λ (u_first : u ≡ v). absurd ((after_each u t ts (subst (λ w. ComesAfterEach w ts) (sym u_first) ordered.0) behind).id (λ none. drawn (same ∙ none)) same))
-    (λ u_behind. same_id t u ts ordered.1 behind u_behind drawn same) u_there)
+    (λ following. absurd ((after_each t u ts (subst (λ w. ComesAfterEach w ts) (sym first) ordered.0) following).id drawn (sym same))) u_there)
+    (λ following. ⊎_elim
+    (λ (u_first : u ≡ v). absurd ((after_each u t ts (subst (λ w. ComesAfterEach w ts) (sym u_first) ordered.0) following).id (λ none. drawn (same ∙ none)) same))
+    (λ u_later. same_id t u ts ordered.1 following u_later drawn same) u_there)
     there
 
 module _ {size : ℕ} {log : ℕ → ℕ} {of : ℕ → List Txn} (s : AreSound size log of) where
   -- a committed transaction has drawn an id
   pub placed_drew : (i : ℕ) (t : Txn) → Among t (of i) → t.place ≢ 0 → t.id ≢ 0
-  placed_drew i t there placed none = placed ((s.each i t there).undrawn none).0
+  placed_drew i t there placed none = placed ((s.each i t there).numbers.undrawn none).0
 
   -- two transactions with one id are one, of one connection
   pub one_id : (i j : ℕ) (t u : Txn) → Among t (of i) → Among u (of j) → t.id ≢ 0 → t.id ≡ u.id → (i ≡ j) × (t ≡ u)
@@ -80,4 +80,4 @@ module _ {size : ℕ} {log : ℕ → ℕ} {of : ℕ → List Txn} (s : AreSound 
     -- a transaction of its connection is it, or an older one
     pub newest_or_older : (P : Txn → Type 0) → P t → ((u : Txn) → Among u rest → ComesAfter t u → P u) → (u : Txn) → Among u (of i) → P u
     newest_or_older P newest older u there =
-        ⊎_elim (λ same. subst P (sym same) newest) (λ behind. older u behind (after_each t u rest newest_after behind)) (subst (Among u) is there)
+        ⊎_elim (λ same. subst P (sym same) newest) (λ following. older u following (after_each t u rest newest_after following)) (subst (Among u) is there)

@@ -5,7 +5,7 @@ use Rattle.std.proofs.lemmas.Bool.{cases_eq}
 use Rattle.std.proofs.lemmas.List.{get_or_default, length-map}
 use Rattle.std.specs.Str.{bytes_eq}
 use Rattle.hc_core.specs.Lookup.{Among}
-use Rattle.hc_core.specs.Account.{Txn, HoldsKey, Stands, WhenOpen, txns, without}
+use Rattle.hc_core.specs.Account.{Txn, HoldsKey, HasWritten, WhenOpen, txns, without}
 use Rattle.hc_core.specs.Diary.{entry_of}
 use Rattle.hc_core.specs.Machine.{IsEnabled, Machine, txns_of}
 use Rattle.hc_core.specs.Running.{HaveSameWrites, Matches, greatest_ord, holds_key}
@@ -56,19 +56,19 @@ number_bounded m i sound bounded open_now =
     let o = opened (txns_of m i) (λ t. (t.id ≢ 0) × (t.place ≡ 0)) open_now in
     log_below m sound i o.t (subst (Among o.t) (sym o.is) (inl refl)) (o.holds).0 (o.holds).1
 
--- a change that leaves the place, the id, the ordinal and what stands
-pub settles_same : (t new : Txn) → new.place ≡ t.place → new.id ≡ t.id → new.ord ≡ t.ord → new.standing ≡ t.standing → Settles t new
-settles_same t new place id ord standing = record {
-  decided = λ some. (place, id, ord, standing);
-  short = λ short key stands. short key (subst (λ (ws : List Write). HoldsKey ws key) standing stands);
+-- a change that leaves the place, the id, the ordinal and what is
+pub settles_same : (t new : Txn) → new.place ≡ t.place → new.id ≡ t.id → new.ord ≡ t.ord → new.write_set ≡ t.write_set → Settles t new
+settles_same t new place id ord write_set = record {
+  decided = λ some. (place, id, ord, write_set);
+  short = λ short key written. short key (subst (λ (ws : List Write). HoldsKey ws key) write_set written);
 }
 
 -- a key taken out of an undecided transaction
-pub settles_without : (key : List ℕ) (t : Txn) → t.place ≡ 0 → Settles t (record t { standing = without key t.standing })
+pub settles_without : (key : List ℕ) (t : Txn) → t.place ≡ 0 → Settles t (record t { write_set = without key t.write_set })
 settles_without key t undecided = record {
   decided = λ some. absurd (some undecided);
-  short = λ short other stands. short other
-      (stands.0, ((among_filter (λ (w : Write). not (bytes_eq w.key key)) (record { key = other; rec = stands.0 }) t.standing).0 stands.1).0);
+  short = λ short other written. short other
+      (written.0, ((among_filter (λ (w : Write). not (bytes_eq w.key key)) (record { key = other; rec = written.0 }) t.write_set).0 written.1).0);
 }
 
 -- what was found open, said of the machine that is held
@@ -90,9 +90,9 @@ pub holds_back : (writes others : List Write) (key : List ℕ) → HaveSameWrite
 holds_back writes others key same h = (h.0, (same (record { key = key; rec = h.0 })).1 h.1)
 
 -- nothing is among no writes
-pub nothing_stands : (writes others : List Write) → HaveSameWrites writes others → writes ≡ [] → others ≡ []
-nothing_stands writes [] same none = refl
-nothing_stands writes (w ∷ others) same none = absurd (subst (λ ws. Among w ws) none ((same w).1 (inl refl)))
+pub nothing_written : (writes others : List Write) → HaveSameWrites writes others → writes ≡ [] → others ≡ []
+nothing_written writes [] same none = refl
+nothing_written writes (w ∷ others) same none = absurd (subst (λ ws. Among w ws) none ((same w).1 (inl refl)))
 
 -- and the other way round
 pub nothing_back : (writes others : List Write) → HaveSameWrites writes others → others ≡ [] → writes ≡ []
@@ -103,27 +103,27 @@ nothing_back (w ∷ writes) others same none = absurd (subst (λ ws. Among w ws)
 pub not_both_ways : (b : Bool) → b ≡ true → b ≡ false → ⊥
 not_both_ways b is_so is_not = let e : true ≡ false = sym is_so ∙ is_not in cc
 
--- what is kept tells whether a key stands, until it is decided
-pub stands_of : (r : Running) (t : Txn) (key : List ℕ) → Matches r t → r.place ≡ 0 → holds_key key r.writes.items ≡ true → Stands t key × (t.place ≡ 0)
-stands_of r t key h none held =
+-- what is kept tells whether a key is, until it is decided
+pub written_of : (r : Running) (t : Txn) (key : List ℕ) → Matches r t → r.place ≡ 0 → holds_key key r.writes.items ≡ true → HasWritten t key × (t.place ≡ 0)
+written_of r t key h none held =
     let undecided = sym h.place ∙ none in
-    (holds_there r.writes.items t.standing key (h.writes undecided) (holds_into key r.writes.items held), undecided)
+    (holds_there r.writes.items t.write_set key (h.writes undecided) (holds_into key r.writes.items held), undecided)
 
--- a key that stands put in an undecided transaction is among the writes that are kept
-pub held_of : (r : Running) (t : Txn) (key : List ℕ) → Matches r t → t.place ≡ 0 → Stands t key → holds_key key r.writes.items ≡ true
-held_of r t key h undecided stands = holds_from key r.writes.items (holds_back r.writes.items t.standing key (h.writes undecided) stands)
+-- a key that is in the write set in an undecided transaction is among the writes that are kept
+pub held_of : (r : Running) (t : Txn) (key : List ℕ) → Matches r t → t.place ≡ 0 → HasWritten t key → holds_key key r.writes.items ≡ true
+held_of r t key h undecided written = holds_from key r.writes.items (holds_back r.writes.items t.write_set key (h.writes undecided) written)
 
 -- what is kept tells whether a transaction may end
 pub may_end_of : (r : Running) (t : Txn) → Matches r t
-    → ((r.place ≢ 0) ⊎ (r.writes.items ≡ [])) ↔ ((t.place ≢ 0) ⊎ (t.standing ≡ []))
+    → ((r.place ≢ 0) ⊎ (r.writes.items ≡ [])) ↔ ((t.place ≢ 0) ⊎ (t.write_set ≡ []))
 may_end_of r t h = (
   λ may. elim may [
     | inl some ↦ inl (λ none. some (h.place ∙ none))
-    | inr none ↦ ⊎_elim (λ (undecided : t.place ≡ 0). inr (nothing_stands r.writes.items t.standing (h.writes undecided) none)) (λ some. inl some) (cases_eq t.place 0)
+    | inr none ↦ ⊎_elim (λ (undecided : t.place ≡ 0). inr (nothing_written r.writes.items t.write_set (h.writes undecided) none)) (λ some. inl some) (cases_eq t.place 0)
   ],
   λ may. elim may [
     | inl some ↦ inl (λ none. some (sym h.place ∙ none))
-    | inr none ↦ ⊎_elim (λ (undecided : t.place ≡ 0). inr (nothing_back r.writes.items t.standing (h.writes undecided) none)) (λ some. inl (λ none. some (sym h.place ∙ none))) (cases_eq t.place 0)
+    | inr none ↦ ⊎_elim (λ (undecided : t.place ≡ 0). inr (nothing_back r.writes.items t.write_set (h.writes undecided) none)) (λ some. inl (λ none. some (sym h.place ∙ none))) (cases_eq t.place 0)
   ],
 )
 

@@ -1,8 +1,8 @@
 -- What the machine keeps holds again after an event whose answer the table gives.
-use Rattle.std.proofs.Common.{◌≡◌, ◌≢◌, ◌∙◌, inl, refl, sym, ap, subst, ℕ, ◌+◌, ◌<◌, ◌≤◌, ◌^◌, List, [], ◌∷◌, ◌++◌, length, get_or, slice_set, arith}
-use Rattle.std.proofs.lemmas.List.{length-set}
+use Rattle.std.proofs.Common.{◌≡◌, ◌≢◌, ◌∙◌, inl, refl, sym, ap, subst, ℕ, ◌+◌, ◌<◌, ◌≤◌, ◌^◌, List, [], ◌∷◌, ◌++◌, length, get_or, slice_set, replicate, arith}
+use Rattle.std.proofs.lemmas.List.{length-replicate, length-set}
 use Rattle.hc_core.specs.Lookup.{Among, but}
-use Rattle.hc_core.specs.Account.{Txn, Stands, WhenOpen, after_entry, begun_at, newest_changed}
+use Rattle.hc_core.specs.Account.{Txn, HasWritten, WhenOpen, after_event, begun_at, newest_changed}
 use Rattle.hc_core.specs.Commits.{IsCommitOf, AreCommits}
 use Rattle.hc_core.specs.Diary.{entry_of}
 use Rattle.hc_core.specs.Kept.{IsKept, machine_of}
@@ -14,20 +14,20 @@ use Rattle.hc_core.specs.declared.commit.Commit.{Commit}
 use Rattle.hc_core.specs.declared.event.Event.{Event}
 use Rattle.hc_core.specs.declared.outcome.Outcome.{Outcome}
 use Rattle.hc_core.proofs.Lookups.{new_here, rest_here, others_here, each_old, each_either, each_grown, grown_here}
-use Rattle.hc_core.proofs.Entered.{opened, in_range, txns_of-entered}
-use Rattle.hc_core.proofs.SoundRuns.{sound_with}
+use Rattle.hc_core.proofs.Entered.{opened, in_range, txns_of-entered, txns_of-start}
+use Rattle.hc_core.proofs.SoundRuns.{sound_with, start_sound}
 
 -- what the log and the bound on keys rest on: where it is decided, who it is and what it put; and short keys
 pub record Settles (t new : Txn) : Type 0 where
-  pub decided : t.place ≢ 0 → (new.place ≡ t.place) × (new.id ≡ t.id) × (new.ord ≡ t.ord) × (new.standing ≡ t.standing)
-  pub short : ((key : List ℕ) → Stands t key → length key ≤ 463) → (key : List ℕ) → Stands new key → length key ≤ 463
+  pub decided : t.place ≢ 0 → (new.place ≡ t.place) × (new.id ≡ t.id) × (new.ord ≡ t.ord) × (new.write_set ≡ t.write_set)
+  pub short : ((key : List ℕ) → HasWritten t key → length key ≤ 463) → (key : List ℕ) → HasWritten new key → length key ≤ 463
 
 -- an entry of the log stays one where the newest transaction of a connection changes
 commit_changed : (of : ℕ → List Txn) (i : ℕ) (t new : Txn) (rest : List Txn) (c : ℕ) (commit : Commit) → of i ≡ t ∷ rest → Settles t new → 0 < c
     → IsCommitOf of c commit → IsCommitOf (but of i (new ∷ rest)) c commit
 commit_changed of i t new rest c commit is settles some h =
     each_old of i t rest is
-    (λ j u. commit.conn ≡ j → u.place ≡ c → u.id ≡ commit.tid → u.ord ≡ commit.ord → HaveSameWrites commit.writes.items u.standing → IsCommitOf (but of i (new ∷ rest)) c commit)
+    (λ j u. commit.conn ≡ j → u.place ≡ c → u.id ≡ commit.tid → u.ord ≡ commit.ord → HaveSameWrites commit.writes.items u.write_set → IsCommitOf (but of i (new ∷ rest)) c commit)
     (λ conn place id ord writes.
     let same = settles.decided (λ none. omega (arith, none, place, some)) in (
       new,
@@ -80,32 +80,32 @@ module _ (drawn : ℕ) (commits : List Commit) (accounts : List (List Entry)) (i
   -- whatever the event does to the connection's transactions and to the log
   pub kept_entered : (room larger more : ℕ) (longer : List Commit) (now : List Txn) → IsKept drawn commits room accounts → Answers m same outcome
       → i < length accounts → after m same outcome ≡ machine_of more longer (entered m i same outcome).accounts
-      → after_entry same outcome (txns_of m i) ≡ now → AreCommits (but (txns_of m) i now) 1 longer
-      → ((j : ℕ) (u : Txn) → Among u (but (txns_of m) i now j) → (key : List ℕ) → Stands u key → length key ≤ 463)
+      → after_event same outcome (txns_of m i) ≡ now → AreCommits (but (txns_of m) i now) 1 longer
+      → ((j : ℕ) (u : Txn) → Among u (but (txns_of m) i now j) → (key : List ℕ) → HasWritten u key → length key ≤ 463)
       → more < 2 ^ 32 → more ≤ larger → IsKept more longer larger (slice_set accounts i account)
   kept_entered room larger more longer now kept answers within as_after as_now logged short bounded roomy =
       let is_now : txns_of (entered m i same outcome) ≡ but (txns_of m) i now =
-      txns_of-entered m i same outcome within ∙ ap (but (txns_of m) i) as_now in
+      txns_of-entered m i (entry_of same outcome) within ∙ ap (but (txns_of m) i) as_now in
       rw accounts_entered record {
         sound = subst IsSound as_after (sound_with m same outcome kept.sound answers);
         logged = subst (λ (of : ℕ → List Txn). AreCommits of 1 longer) (sym is_now) logged;
-        short = λ j u key there stands. short j u (subst (λ (of : ℕ → List Txn). Among u (of j)) is_now there) key stands;
+        short = λ j u key there written. short j u (subst (λ (of : ℕ → List Txn). Among u (of j)) is_now there) key written;
         few = rw (← accounts_entered, length-set accounts i account) kept.few;
         bounded = bounded;
         roomy = roomy;
       }
 
-  -- a short key stands where one stood, and where one comes
+  -- a short key is where one was, and where one comes
   pub short_changed : (room : ℕ) (t new : Txn) (rest : List Txn) → IsKept drawn commits room accounts → txns_of m i ≡ t ∷ rest → Settles t new
-      → (j : ℕ) (u : Txn) → Among u (but (txns_of m) i (new ∷ rest) j) → (key : List ℕ) → Stands u key → length key ≤ 463
+      → (j : ℕ) (u : Txn) → Among u (but (txns_of m) i (new ∷ rest) j) → (key : List ℕ) → HasWritten u key → length key ≤ 463
   short_changed room t new rest kept is settles =
-      each_either (txns_of m) i t rest is new (λ j u. (key : List ℕ) → Stands u key → length key ≤ 463)
-      (settles.short (λ key stands. kept.short i t key (subst (Among t) (sym is) (inl refl)) stands))
-      (λ j u there key stands. kept.short j u key there stands)
+      each_either (txns_of m) i t rest is new (λ j u. (key : List ℕ) → HasWritten u key → length key ≤ 463)
+      (settles.short (λ key written. kept.short i t key (subst (Among t) (sym is) (inl refl)) written))
+      (λ j u there key written. kept.short j u key there written)
 
   -- the newest transaction changes, and neither the log nor the number of ids does
   pub kept_changed : (room : ℕ) (f : Txn → Txn) → IsKept drawn commits room accounts → Answers m same outcome
-      → after m same outcome ≡ entered m i same outcome → ((ts : List Txn) → after_entry same outcome ts ≡ newest_changed f ts)
+      → after m same outcome ≡ entered m i same outcome → ((ts : List Txn) → after_event same outcome ts ≡ newest_changed f ts)
       → WhenOpen (txns_of m i) (λ t. Settles t (f t)) → IsKept drawn commits room (slice_set accounts i account)
   kept_changed room f kept answers as_after as_change open_now =
       let o = opened (txns_of m i) (λ t. Settles t (f t)) open_now in
@@ -116,11 +116,22 @@ module _ (drawn : ℕ) (commits : List Commit) (accounts : List (List Entry)) (i
 
   -- a transaction begins
   pub kept_begun : (room snapshot : ℕ) → IsKept drawn commits room accounts → Answers m same outcome → i < length accounts
-      → after m same outcome ≡ entered m i same outcome → ((ts : List Txn) → after_entry same outcome ts ≡ begun_at snapshot ∷ ts)
+      → after m same outcome ≡ entered m i same outcome → ((ts : List Txn) → after_event same outcome ts ≡ begun_at snapshot ∷ ts)
       → IsKept drawn commits room (slice_set accounts i account)
   kept_begun room snapshot kept answers within as_after as_change =
       kept_entered room room drawn commits (begun_at snapshot ∷ txns_of m i) kept answers within as_after (as_change (txns_of m i))
       (commits_grown (txns_of m) i (begun_at snapshot) 1 commits kept.logged)
-      (each_grown (txns_of m) i (begun_at snapshot) (λ j u. (key : List ℕ) → Stands u key → length key ≤ 463)
-      (λ key stands. absurd stands.1) (λ j u there key stands. kept.short j u key there stands))
+      (each_grown (txns_of m) i (begun_at snapshot) (λ j u. (key : List ℕ) → HasWritten u key → length key ≤ 463)
+      (λ key written. absurd written.1) (λ j u there key written. kept.short j u key there written))
       kept.bounded kept.roomy
+
+-- a new machine keeps nothing
+pub kept_start : (conns room : ℕ) → conns < 2 ^ 32 → IsKept 0 [] room (replicate conns [])
+kept_start conns room few = record {
+  sound = start_sound conns;
+  logged = tt;
+  short = λ i t key there. absurd (subst (Among t) (txns_of-start conns i) there);
+  few = subst (λ n. n < 2 ^ 32) (sym (length-replicate conns [])) few;
+  bounded = omega arith;
+  roomy = omega arith;
+}

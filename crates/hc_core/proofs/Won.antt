@@ -45,14 +45,14 @@ decide_enabled m i r h may =
 pub proposed_within : (m : Machine) (i : ℕ) (r : Running) → IsSound m → WhenOpen (txns_of m i) (Matches r) → r.proposed ≤ length m.log + 1
 proposed_within m i r sound h =
     let o = opened (txns_of m i) (Matches r) h in
-    subst (λ n. n ≤ length m.log + 1) (sym (o.holds).proposed) ((newest_sound sound.sound i o.t o.rest o.is).proposed)
+    subst (λ n. n ≤ length m.log + 1) (sym (o.holds).proposed) ((newest_sound sound.sound i o.t o.rest o.is).numbers.proposed_within)
 
 -- who proposes has drawn an id
 pub proposer_drew : (m : Machine) (i : ℕ) (r : Running) → IsSound m → WhenOpen (txns_of m i) (Matches r) → MayDecide r
     → WhenOpen (txns_of m i) (λ t. (t.id ≢ 0) × (t.place ≡ 0))
 proposer_drew m i r sound h may =
     let o = opened (txns_of m i) (Matches r) h in
-    let drew : o.t.id ≢ 0 = λ none. may.0 ((o.holds).proposed ∙ ((newest_sound sound.sound i o.t o.rest o.is).undrawn none).3) in
+    let drew : o.t.id ≢ 0 = λ none. may.0 ((o.holds).proposed ∙ ((newest_sound sound.sound i o.t o.rest o.is).numbers.undrawn none).1) in
     subst (λ ts. WhenOpen ts (λ t. (t.id ≢ 0) × (t.place ≡ 0))) (sym o.is) (o.running, (drew, sym (o.holds).place ∙ may.1))
 
 -- the next number is won
@@ -81,7 +81,7 @@ module _ (drawn : ℕ) (commits : List Commit) (room : ℕ) (accounts : List (Li
     (is : account ≡ entry_of event (Decided (record { 0 = r.proposed })) ∷ old) (was : old ≡ get_or accounts i d) (form : event ≡ Decide i)
     (h : WhenOpen (txns_of (machine_of drawn commits accounts) i) (Matches r)) (may : MayDecide r) (next : r.proposed ≡ length commits + 1)
     (tid : commit.tid ≡ r.tid) (ord : commit.ord ≡ r.ord) (conn : commit.conn ≡ i)
-    (writes : WhenOpen (txns old) (λ t. HaveSameWrites commit.writes.items t.standing)) where
+    (writes : WhenOpen (txns old) (λ t. HaveSameWrites commit.writes.items t.write_set)) where
   abbrev m : Machine
   m = machine_of drawn commits accounts
 
@@ -100,7 +100,7 @@ module _ (drawn : ℕ) (commits : List Commit) (room : ℕ) (accounts : List (Li
       let undecided : o.t.place ≡ 0 = sym (o.holds).place ∙ may.1 in
       let new : Txn = record o.t { place = r.proposed } in
       let settles : Settles o.t new = record { decided = λ some. absurd (some undecided); short = λ short. short } in
-      let stands = of_newest (txns old) o.t o.rest _ (ap txns here ∙ o.is) writes in
+      let written = of_newest (txns old) o.t o.rest _ (ap txns here ∙ o.is) writes in
       let logged = commits_changed (txns_of m) i o.t new o.rest 1 commits o.is settles (omega arith) kept.logged in
       let last : IsCommitOf (but (txns_of m) i (new ∷ o.rest)) (1 + length commits) commit = (
         new,
@@ -108,7 +108,7 @@ module _ (drawn : ℕ) (commits : List Commit) (room : ℕ) (accounts : List (Li
         omega (arith, next),
         sym (o.holds).id ∙ sym tid,
         sym (o.holds).ord ∙ sym ord,
-        stands,
+        written,
       ) in
       let ids : m.log ++ o.t.id ∷ [] ≡ map (λ (c : Commit). c.tid) (commits ++ commit ∷ []) =
       ap (λ n. m.log ++ n ∷ []) (sym (o.holds).id ∙ sym tid) ∙ sym (map-append (λ (c : Commit). c.tid) commits (commit ∷ [])) in

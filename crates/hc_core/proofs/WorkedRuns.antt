@@ -5,10 +5,10 @@ use Rattle.hc_range.specs.declared.range.Range.{Range}
 use Rattle.hc_range.specs.Order.{is_below}
 use Rattle.hc_range.specs.Ranges.{InRange, Includes}
 use Rattle.hc_core.specs.Lookup.{Among}
-use Rattle.hc_core.specs.Account.{Txn, PartRead, HoldsKey, Stands, begun_at, part_of, txns}
+use Rattle.hc_core.specs.Account.{Txn, PartRead, HoldsKey, HasWritten, begun_at, part_of, txns}
 use Rattle.hc_core.specs.Laws.{IsTheRun}
 use Rattle.hc_core.specs.Examples.{key_a, key_b, key_c, key_p, one_commit, under_a_newer_one, write_skew}
-use Rattle.hc_core.specs.Machine.{IsFree, Machine, Runs, after, start, txns_of}
+use Rattle.hc_core.specs.Machine.{IsFree, Machine, Runs, after_step, start, txns_of}
 use Rattle.hc_core.specs.Running.{holds_key}
 use Rattle.hc_core.specs.Versions.{IsFound}
 use Rattle.hc_core.specs.declared.account.Entry.{Entry}
@@ -21,7 +21,7 @@ use Rattle.hc_core.proofs.Played.{the_run}
 -- the machine after steps
 abbrev after_all : Machine → List Entry → Machine
 after_all m [] = m
-after_all m (step ∷ steps) = after_all (after m step.event step.outcome) steps
+after_all m (step ∷ steps) = after_all (after_step m step) steps
 
 -- what holds of each of a list
 abbrev EachIn : {A : Type 0} → (A → Type 0) → List A → Type 0
@@ -31,7 +31,7 @@ EachIn P (x ∷ xs) = P x × EachIn P xs
 -- what holds of each of a list holds of one that is in it
 each_in : {A : Type 0} (P : A → Type 0) (xs : List A) → EachIn P xs → (y : A) → Among y xs → P y
 each_in P [] all y there = absurd there
-each_in P (x ∷ xs) all y there = ⊎_elim (λ same. subst P (sym same) all.0) (λ behind. each_in P xs all.1 y behind) there
+each_in P (x ∷ xs) all y there = ⊎_elim (λ same. subst P (sym same) all.0) (λ following. each_in P xs all.1 y following) there
 
 -- what holds of each transaction of each account, the first one being connection 0's
 abbrev EachOf : (ℕ → Txn → Type 0) → List (List Entry) → Type 0
@@ -45,9 +45,9 @@ each_of P (account ∷ accounts) all zero u there = each_in (P 0) (txns account)
 each_of P (account ∷ accounts) all (suc j) u there = each_of (λ k. P (suc k)) accounts all.1 j u there
 
 -- a put is free where it is so by each transaction of each account
-free_by : (m : Machine) (i snapshot : ℕ) (key : List ℕ) → EachOf (λ j u. Stands u key → ((u.place ≢ 0) ⊎ (j ≡ i)) × (u.place ≤ snapshot)) m.accounts
+free_by : (m : Machine) (i snapshot : ℕ) (key : List ℕ) → EachOf (λ j u. HasWritten u key → ((u.place ≢ 0) ⊎ (j ≡ i)) × (u.place ≤ snapshot)) m.accounts
     → IsFree (txns_of m) i snapshot key
-free_by m i snapshot key all = each_of (λ j u. Stands u key → ((u.place ≢ 0) ⊎ (j ≡ i)) × (u.place ≤ snapshot)) m.accounts all
+free_by m i snapshot key all = each_of (λ j u. HasWritten u key → ((u.place ≢ 0) ⊎ (j ≡ i)) × (u.place ≤ snapshot)) m.accounts all
 
 -- the parts that were read lie in the parts that were checked
 includes_by : (parts : List Range) (reads : List PartRead) → EachIn (λ (read : PartRead). Includes parts read.part) reads → (read : PartRead) → Among read reads
@@ -77,9 +77,9 @@ abbrev put_of : List ℕ → Write
 put_of key = record { key = key; rec = Some [] }
 
 -- a check of the part of the first key for the number 2 finds the commit with the number 1
-found_first : (m : Machine) (j : ℕ) (u : Txn) → Among u (txns_of m j) → u.place ≡ 1 → Stands u key_a → IsFound (txns_of m) 0 2 part_a key_a j u
-found_first m j u there place stands = record {
-  between = (there, omega (arith, place), omega (arith, place), stands);
+found_first : (m : Machine) (j : ℕ) (u : Txn) → Among u (txns_of m j) → u.place ≡ 1 → HasWritten u key_a → IsFound (txns_of m) 0 2 part_a key_a j u
+found_first m j u there place written = record {
+  between = (there, omega (arith, place), omega (arith, place), written);
   inside = a_inside;
   least = λ other k v inside between. inside.0;
   newest = λ k v between. omega (arith, place, between.2);
@@ -110,7 +110,7 @@ one_commit_runs = (
     (
       inl ((refl, (refl, omega arith, ords_below (at 2 one_commit 2) 0 (omega arith, tt), lit< tt)), refl),
       (
-        inl ((refl, (some 0, refl, refl, λ stands. absurd stands.1)), (refl, inr (free_by (at 2 one_commit 3) 0 0 key_a (((λ stands. absurd stands.1), tt), (tt, tt)), refl))),
+        inl ((refl, (some 0, refl, refl, λ written. absurd written.1)), (refl, inr (free_by (at 2 one_commit 3) 0 0 key_a (((λ written. absurd written.1), tt), (tt, tt)), refl))),
         (
           inl ((refl, (some 0, refl)), refl),
           (
@@ -146,22 +146,22 @@ write_skew_runs = (
             inl ((refl, (refl, omega arith, ords_below (at 2 write_skew 5) 1 (omega arith, tt), lit< tt)), refl),
             (
               inl (
-                (refl, (some 0, refl, refl, λ stands. absurd stands.1)),
+                (refl, (some 0, refl, refl, λ written. absurd written.1)),
                 (
                   refl,
                   inr (
-                    free_by (at 2 write_skew 6) 0 0 key_a (((λ stands. absurd stands.1), tt), (((λ stands. absurd stands.1), tt), tt)),
+                    free_by (at 2 write_skew 6) 0 0 key_a (((λ written. absurd written.1), tt), (((λ written. absurd written.1), tt), tt)),
                     refl,
                   ),
                 ),
               ),
               (
                 inl (
-                  (refl, (some 1, refl, refl, λ stands. absurd stands.1)),
+                  (refl, (some 1, refl, refl, λ written. absurd written.1)),
                   (
                     refl,
                     inr (
-                      free_by (at 2 write_skew 7) 1 0 key_b (((λ stands. absurd (not_there key_b (put_of key_a ∷ []) refl stands)), tt), (((λ stands. absurd stands.1), tt), tt)),
+                      free_by (at 2 write_skew 7) 1 0 key_b (((λ written. absurd (not_there key_b (put_of key_a ∷ []) refl written)), tt), (((λ written. absurd written.1), tt), tt)),
                       refl,
                     ),
                   ),
@@ -233,11 +233,11 @@ under_a_newer_one_runs = (
         inl ((refl, (refl, omega arith, ords_below (at 3 under_a_newer_one 3) 1 (omega arith, tt), lit< tt)), refl),
         (
           inl (
-            (refl, (some 0, refl, refl, λ stands. absurd stands.1)),
+            (refl, (some 0, refl, refl, λ written. absurd written.1)),
             (
               refl,
               inr (
-                free_by (at 3 under_a_newer_one 4) 1 0 key_a (((λ stands. absurd stands.1), tt), (((λ stands. absurd stands.1), tt), (tt, tt))),
+                free_by (at 3 under_a_newer_one 4) 1 0 key_a (((λ written. absurd written.1), tt), (((λ written. absurd written.1), tt), (tt, tt))),
                 refl,
               ),
             ),
@@ -252,12 +252,12 @@ under_a_newer_one_runs = (
                   inl ((refl, (refl, omega arith, ords_below (at 3 under_a_newer_one 8) 0 (omega arith, tt), lit< tt)), refl),
                   (
                     inl (
-                      (refl, (some 1, refl, refl, λ stands. absurd stands.1)),
+                      (refl, (some 1, refl, refl, λ written. absurd written.1)),
                       (
                         refl,
                         inr (
                           free_by (at 3 under_a_newer_one 9) 0 0 key_p
-                              (((λ stands. absurd stands.1), tt), (((λ stands. absurd (not_there key_p (put_of key_a ∷ []) refl stands)), tt), (tt, tt))),
+                              (((λ written. absurd written.1), tt), (((λ written. absurd (not_there key_p (put_of key_a ∷ []) refl written)), tt), (tt, tt))),
                           refl,
                         ),
                       ),
@@ -270,12 +270,12 @@ under_a_newer_one_runs = (
                           inl ((refl, (refl, omega arith, ords_below (at 3 under_a_newer_one 12) 2 (omega arith, tt), lit< tt)), refl),
                           (
                             inl (
-                              (refl, (some 2, refl, refl, λ stands. absurd stands.1)),
+                              (refl, (some 2, refl, refl, λ written. absurd written.1)),
                               (
                                 refl,
                                 inr (
                                   free_by (at 3 under_a_newer_one 13) 2 1 key_a
-                                      (((λ stands. absurd (not_there key_a (put_of key_p ∷ []) refl stands)), tt), (((λ stands. (inl (some 0), omega arith)), tt), (((λ stands. absurd stands.1), tt), tt))),
+                                      (((λ written. absurd (not_there key_a (put_of key_p ∷ []) refl written)), tt), (((λ written. (inl (some 0), omega arith)), tt), (((λ written. absurd written.1), tt), tt))),
                                   refl,
                                 ),
                               ),

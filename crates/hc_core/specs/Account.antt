@@ -1,11 +1,13 @@
--- An account is what happened to one connection: its events with their answers, the newest first. Here it
--- is folded into the connection's transactions, the newest first.
-use Rattle.std.specs.Prelude.{◌≡◌, ℕ, Bool, true, false, Option, List, [], ◌∷◌, filter, not}
+-- An account is what happened to one connection: its events with their answers, and its notes, the newest first. Here
+-- it is folded into the connection's transactions, the newest first.
+use Rattle.std.specs.Prelude.{◌≡◌, ℕ, Bool, true, false, Option, List, [], ◌∷◌, Some, None, length, ◌+◌, ◌/◌, filter, not}
 use Rattle.std.specs.Str.{bytes_eq}
 use Rattle.hc_range.specs.declared.range.Range.{Range}
 use Rattle.hc_range.specs.Ranges.{InRange}
 use Rattle.hc_core.specs.Lookup.{Among}
+use Rattle.hc_base.specs.declared.full.Full.{Full}
 use Rattle.hc_core.specs.declared.account.Entry.{Entry}
+use Rattle.hc_core.specs.declared.account.Entry.TheVariants.{Answered, Reserved, FoundFull}
 use Rattle.hc_core.specs.declared.cells.Cell.{Cell}
 use Rattle.hc_core.specs.declared.cells.Write.{Write}
 use Rattle.hc_core.specs.declared.event.Event.{Event}
@@ -28,29 +30,61 @@ pub record PartChecked : Type 0 where
   pub part : Range
   pub number : ℕ
 
--- a refusal of a put or of a check, with whom it names
+-- what a put or a check asked for: a key, or the keys of a part
+pub data Asked : Type 0 where
+  KeyAsked : List ℕ → Asked
+  PartAsked : Range → Asked
+
+-- a check asks for a part
+abbrev pub IsPart : Asked → Type 0
+IsPart (KeyAsked key) = ⊥
+IsPart (PartAsked part) = Unit {0}
+
+-- a key is one of those that were asked for
+abbrev pub IsAskedFor : Asked → List ℕ → Type 0
+IsAskedFor (KeyAsked asked) key = key ≡ asked
+IsAskedFor (PartAsked part) key = InRange part key
+
+-- a refusal of a put or of a check: what was asked for, and whom it names
 pub record Refusal : Type 0 where
-  pub by_check : Bool
+  pub asked : Asked
   pub met : MetRecord
 
--- A transaction as its account shows it. A key stands put where it was put and not taken out; `puts` has all that
--- was ever put, the last one first. What counts as checked was checked for the proposal that stands; what a check
--- found unchanged stays so, for its own number.
--- Numbers count from 1, and 0 says: id, not drawn; ord, not drawn; proposed, nothing is proposed;
--- place, not decided.
+-- A transaction as its account shows it. A key is in the write set where it was put and not taken out; `puts` has all that
+-- was ever put, the last one first. What counts as checked was checked for the number that is proposed now; what a
+-- check found unchanged stays so, for its own number. Numbers count from 1, and 0 says: id, not drawn; ord, not drawn;
+-- proposed, nothing is proposed; place, not decided. The writes for which it has room, their weight, and what was full
+-- are notes.
 pub record Txn : Type 0 where
   pub id : ℕ
   pub ord : ℕ
   pub snapshot : ℕ
   pub reads : List PartRead
-  pub standing : List Write
+  pub write_set : List Write
   pub puts : List Write
   pub proposed : ℕ
   pub checked : List Range
   pub unchanged : List PartChecked
   pub refusals : List Refusal
+  pub reserved : List Write
+  pub weight : Option ℕ
+  pub full : Option Full
   pub place : ℕ
   pub ended : Bool
+
+-- the bytes of a record; a tombstone has none
+abbrev pub record_of : Option (List ℕ) → List ℕ
+record_of None = []
+record_of (Some rec) = rec
+
+-- what a write weighs: 256, and 1 more for each 2,040 bytes of its record that are begun
+abbrev pub weight_of_write : Write → ℕ
+weight_of_write w = 256 + (length (record_of w.rec) + 2039) / 2040
+
+-- what writes weigh together
+abbrev pub weight_of : List Write → ℕ
+weight_of [] = 0
+weight_of (w ∷ ws) = weight_of_write w + weight_of ws
 
 -- a transaction that has just begun
 abbrev pub begun_at : ℕ → Txn
@@ -59,12 +93,15 @@ begun_at snapshot = record {
   ord = 0;
   snapshot = snapshot;
   reads = [];
-  standing = [];
+  write_set = [];
   puts = [];
   proposed = 0;
   checked = [];
   unchanged = [];
   refusals = [];
+  reserved = [];
+  weight = None;
+  full = None;
   place = 0;
   ended = false;
 }
@@ -93,8 +130,8 @@ after_read part (Cells found) t = record t { reads = record { part = part; cells
 after_read part _ t = t
 
 abbrev pub after_put : List ℕ → Option (List ℕ) → Outcome → Txn → Txn
-after_put key rec Done t = record t { standing = record { key = key; rec = rec } ∷ t.standing; puts = record { key = key; rec = rec } ∷ t.puts }
-after_put key rec (Met met) t = record t { refusals = record { by_check = false; met = met } ∷ t.refusals }
+after_put key rec Done t = record t { write_set = record { key = key; rec = rec } ∷ t.write_set; puts = record { key = key; rec = rec } ∷ t.puts }
+after_put key rec (Met met) t = record t { refusals = record { asked = KeyAsked key; met = met } ∷ t.refusals }
 after_put key rec _ t = t
 
 abbrev pub after_propose : Outcome → Txn → Txn
@@ -103,7 +140,7 @@ after_propose _ t = t
 
 abbrev pub after_check : Range → Outcome → Txn → Txn
 after_check part Done t = record t { checked = part ∷ t.checked; unchanged = record { part = part; number = t.proposed } ∷ t.unchanged }
-after_check part (Met met) t = record t { refusals = record { by_check = true; met = met } ∷ t.refusals }
+after_check part (Met met) t = record t { refusals = record { asked = PartAsked part; met = met } ∷ t.refusals }
 after_check part _ t = t
 
 abbrev pub after_decide : Outcome → Txn → Txn
@@ -112,7 +149,7 @@ after_decide (Lost lost) t = record t { proposed = 0; checked = [] }
 after_decide _ t = t
 
 abbrev pub after_unput : List ℕ → Outcome → Txn → Txn
-after_unput key Done t = record t { standing = without key t.standing }
+after_unput key Done t = record t { write_set = without key t.write_set }
 after_unput key _ t = t
 
 abbrev pub after_end : Outcome → Txn → Txn
@@ -120,38 +157,76 @@ after_end Done t = record t { ended = true }
 after_end _ t = t
 
 -- the transactions after an event with its answer
-abbrev pub after_entry : Event → Outcome → List Txn → List Txn
-after_entry (Begin conn) outcome ts = after_begin outcome ts
-after_entry (Draw conn ord) outcome ts = newest_changed (after_draw ord outcome) ts
-after_entry (Read conn from upto) outcome ts = newest_changed (after_read (part_of from upto) outcome) ts
-after_entry (Put conn key rec) outcome ts = newest_changed (after_put key rec outcome) ts
-after_entry (Propose conn) outcome ts = newest_changed (after_propose outcome) ts
-after_entry (Check conn from upto) outcome ts = newest_changed (after_check (part_of from upto) outcome) ts
-after_entry (Decide conn) outcome ts = newest_changed (after_decide outcome) ts
-after_entry (Unput conn key) outcome ts = newest_changed (after_unput key outcome) ts
-after_entry (End conn) outcome ts = newest_changed (after_end outcome) ts
-after_entry (Purge key) outcome ts = ts
+abbrev pub after_event : Event → Outcome → List Txn → List Txn
+after_event (Begin conn) outcome ts = after_begin outcome ts
+after_event (Draw conn ord) outcome ts = newest_changed (after_draw ord outcome) ts
+after_event (Read conn from upto) outcome ts = newest_changed (after_read (part_of from upto) outcome) ts
+after_event (Put conn key rec) outcome ts = newest_changed (after_put key rec outcome) ts
+after_event (Propose conn) outcome ts = newest_changed (after_propose outcome) ts
+after_event (Check conn from upto) outcome ts = newest_changed (after_check (part_of from upto) outcome) ts
+after_event (Decide conn) outcome ts = newest_changed (after_decide outcome) ts
+after_event (Unput conn key) outcome ts = newest_changed (after_unput key outcome) ts
+after_event (End conn) outcome ts = newest_changed (after_end outcome) ts
+after_event (Purge key) outcome ts = ts
+
+-- a transaction after room was made for its writes
+abbrev pub after_reserve : List Write → Txn → Txn
+after_reserve writes t = record t { reserved = writes; weight = Some (weight_of writes) }
+
+-- the transactions after an entry
+abbrev pub after_entry : Entry → List Txn → List Txn
+after_entry (Answered event outcome) ts = after_event event outcome ts
+after_entry (Reserved conn writes) ts = newest_changed (after_reserve writes) ts
+after_entry (FoundFull conn full) ts = newest_changed (λ t. record t { full = Some full }) ts
 
 -- the transactions of an account, the newest first
 abbrev pub txns : List Entry → List Txn
 txns [] = []
-txns (entry ∷ account) = after_entry entry.event entry.outcome (txns account)
+txns (entry ∷ account) = after_entry entry (txns account)
 
--- a key stands put in a transaction, to this record or tombstone
-abbrev pub StandsAs : Txn → List ℕ → Option (List ℕ) → Type 0
-StandsAs t key rec = Among (record { key = key; rec = rec }) t.standing
+-- an event is one of connection i
+abbrev pub IsEventOf : ℕ → Event → Type 0
+IsEventOf i (Begin conn) = conn ≡ i
+IsEventOf i (Draw conn ord) = conn ≡ i
+IsEventOf i (Read conn from upto) = conn ≡ i
+IsEventOf i (Put conn key rec) = conn ≡ i
+IsEventOf i (Propose conn) = conn ≡ i
+IsEventOf i (Check conn from upto) = conn ≡ i
+IsEventOf i (Decide conn) = conn ≡ i
+IsEventOf i (Unput conn key) = conn ≡ i
+IsEventOf i (End conn) = conn ≡ i
+IsEventOf i (Purge key) = ⊥
+
+-- an entry is one of connection i
+abbrev pub IsOf : ℕ → Entry → Type 0
+IsOf i (Answered event outcome) = IsEventOf i event
+IsOf i (Reserved conn writes) = conn ≡ i
+IsOf i (FoundFull conn full) = conn ≡ i
+
+-- and so is each of an account
+abbrev pub AreOf : ℕ → List Entry → Type 0
+AreOf i [] = Unit {0}
+AreOf i (entry ∷ account) = IsOf i entry × AreOf i account
+
+-- a key is in the write set of a transaction, with this record or tombstone
+abbrev pub HasWrittenAs : Txn → List ℕ → Option (List ℕ) → Type 0
+HasWrittenAs t key rec = Among (record { key = key; rec = rec }) t.write_set
 
 -- a key is among writes
 abbrev pub HoldsKey : List Write → List ℕ → Type 0
 HoldsKey writes key = (rec : Option (List ℕ)) × Among (record { key = key; rec = rec }) writes
 
--- a key stands put in a transaction
-abbrev pub Stands : Txn → List ℕ → Type 0
-Stands t key = HoldsKey t.standing key
+-- a key is in the write set of a transaction
+abbrev pub HasWritten : Txn → List ℕ → Type 0
+HasWritten t key = HoldsKey t.write_set key
 
--- a transaction read a key: it lies in a part that it read
+-- a key lies in one of the parts that were read
+abbrev pub LiesInRead : List PartRead → List ℕ → Type 0
+LiesInRead reads key = (read : PartRead) × Among read reads × InRange read.part key
+
+-- a transaction read a key
 abbrev pub HasRead : Txn → List ℕ → Type 0
-HasRead t key = (read : PartRead) × Among read t.reads × InRange read.part key
+HasRead t key = LiesInRead t.reads key
 
 -- no transaction is open
 abbrev pub IsIdle : List Txn → Type 0

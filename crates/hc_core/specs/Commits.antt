@@ -17,7 +17,7 @@ use Rattle.hc_core.specs.declared.outcome.Met.{Met as MetRecord}
 -- an entry is that of the transaction with commit number c
 abbrev pub IsCommitOf : (ℕ → List Txn) → ℕ → Commit → Type 0
 IsCommitOf of c commit = (t : Txn) × Among t (of commit.conn) × (t.place ≡ c) × (t.id ≡ commit.tid) × (t.ord ≡ commit.ord)
-    × HaveSameWrites commit.writes.items t.standing
+    × HaveSameWrites commit.writes.items t.write_set
 
 -- the entries are those of the transactions with commit numbers from c on
 abbrev pub AreCommits : (ℕ → List Txn) → ℕ → List Commit → Type 0

@@ -1,7 +1,7 @@
 -- What the machine keeps at run time, which machine it is, and what holds of it between two events.
 use Rattle.std.specs.Prelude.{ℕ, ◌<◌, ◌≤◌, ◌^◌, List, length, map}
 use Rattle.hc_core.specs.Lookup.{Among}
-use Rattle.hc_core.specs.Account.{Txn, Stands}
+use Rattle.hc_core.specs.Account.{Txn, HasWritten}
 use Rattle.hc_core.specs.Commits.{AreCommits}
 use Rattle.hc_core.specs.Machine.{Machine, txns_of}
 use Rattle.hc_core.specs.Sound.{IsSound}
@@ -19,8 +19,8 @@ pub record IsKept (drawn : ℕ) (commits : List Commit) (room : ℕ) (accounts :
   pub sound : IsSound (machine_of drawn commits accounts)
   -- the log has what the transactions put
   pub logged : AreCommits (txns_of (machine_of drawn commits accounts)) 1 commits
-  -- a key that stands put can be named in a refusal
-  pub short : (i : ℕ) (t : Txn) (key : List ℕ) → Among t (txns_of (machine_of drawn commits accounts) i) → Stands t key → length key ≤ 463
+  -- a key that is in the write set can be named in a refusal
+  pub short : (i : ℕ) (t : Txn) (key : List ℕ) → Among t (txns_of (machine_of drawn commits accounts) i) → HasWritten t key → length key ≤ 463
   -- connections are numbers of 32 bits
   pub few : length accounts < 2 ^ 32
   -- ids are numbers of 32 bits

@@ -9,3 +9,5 @@ pub mod Sound
 pub mod Kept
 pub mod Laws
 pub mod Examples
+pub mod Desk
+pub mod Cutting

@@ -4,9 +4,11 @@ use Rattle.std.specs.Prelude.{◌≡◌, ◌≢◌, ℕ, ◌+◌, ◌-◌, ◌<�
 use Rattle.hc_range.specs.declared.range.Range.{Range}
 use Rattle.hc_range.specs.Ranges.{InRange, Includes}
 use Rattle.hc_core.specs.Lookup.{Among}
-use Rattle.hc_core.specs.Account.{Txn, PartRead, part_of, txns, Stands, StandsAs, IsIdle, WhenOpen}
-use Rattle.hc_core.specs.Versions.{AreCellsAfter, IsFirstVersion, IsInTheWay, IsBetween, IsFound}
+use Rattle.hc_core.specs.Account.{Txn, PartRead, part_of, txns, HasWritten, HasWrittenAs, IsIdle, WhenOpen}
+use Rattle.hc_core.specs.Versions.{AreCellsAfter, IsLatestVersion, IsInTheWay, IsBetween, IsFound}
+use Rattle.hc_core.specs.Diary.{entry_of}
 use Rattle.hc_core.specs.declared.account.Entry.{Entry}
+use Rattle.hc_core.specs.declared.account.Entry.TheVariants.{Answered, Reserved, FoundFull}
 use Rattle.hc_core.specs.declared.cells.Cell.{Cell}
 use Rattle.hc_core.specs.declared.event.Event.{Event}
 use Rattle.hc_core.specs.declared.event.Event.TheVariants.{Begin, Draw, Read, Put, Propose, Check, Decide, Unput, End, Purge}
@@ -39,7 +41,7 @@ next_number m = length m.log + 1
 
 -- the key's newest version is a tombstone of a committed transaction, which every open transaction sees
 abbrev pub IsForgettable : (ℕ → List Txn) → List ℕ → Type 0
-IsForgettable of key = (j : ℕ) × (u : Txn) × IsFirstVersion of key j u × (u.place ≢ 0) × StandsAs u key None
+IsForgettable of key = (j : ℕ) × (u : Txn) × IsLatestVersion of key j u × (u.place ≢ 0) × HasWrittenAs u key None
     × ((i : ℕ) (t : Txn) → Among t (of i) → t.ended ≡ false → u.place ≤ t.snapshot)
 
 -- which event is enabled
@@ -51,19 +53,19 @@ IsEnabled m (Draw i ord) = WhenOpen (txns_of m i) (λ t. (t.id ≡ 0) × (0 < or
     × ((u : Txn) → Among u (txns_of m i) → u.ord < ord) × (m.drawn < 2 ^ 32 - 1))
 -- it has not drawn
 IsEnabled m (Read i from upto) = WhenOpen (txns_of m i) (λ t. t.id ≡ 0)
--- it has drawn, is not decided and proposes nothing, and the key does not stand put
-IsEnabled m (Put i key rec) = WhenOpen (txns_of m i) (λ t. (t.id ≢ 0) × (t.place ≡ 0) × (t.proposed ≡ 0) × (Stands t key → ⊥))
+-- it has drawn, is not decided and proposes nothing, and the key is not in the write set
+IsEnabled m (Put i key rec) = WhenOpen (txns_of m i) (λ t. (t.id ≢ 0) × (t.place ≡ 0) × (t.proposed ≡ 0) × (HasWritten t key → ⊥))
 -- it has drawn, and is not decided
 IsEnabled m (Propose i) = WhenOpen (txns_of m i) (λ t. (t.id ≢ 0) × (t.place ≡ 0))
--- a proposal stands
+-- it proposes a number
 IsEnabled m (Check i from upto) = WhenOpen (txns_of m i) (λ t. t.proposed ≢ 0)
--- a proposal stands, it is not decided, and each part read lies in the parts checked for the proposal
+-- it proposes a number and is not decided, and each part read lies in the parts checked for that number
 IsEnabled m (Decide i) = WhenOpen (txns_of m i) (λ t. (t.proposed ≢ 0) × (t.place ≡ 0)
     × ((read : PartRead) → Among read t.reads → Includes t.checked read.part))
--- the key stands put, and it is not decided
-IsEnabled m (Unput i key) = WhenOpen (txns_of m i) (λ t. Stands t key × (t.place ≡ 0))
--- it is decided, or no key stands put
-IsEnabled m (End i) = WhenOpen (txns_of m i) (λ t. (t.place ≢ 0) ⊎ (t.standing ≡ []))
+-- the key is in the write set, and it is not decided
+IsEnabled m (Unput i key) = WhenOpen (txns_of m i) (λ t. HasWritten t key × (t.place ≡ 0))
+-- it is decided, or no key is in the write set
+IsEnabled m (End i) = WhenOpen (txns_of m i) (λ t. (t.place ≢ 0) ⊎ (t.write_set ≡ []))
 IsEnabled m (Purge key) = IsForgettable (txns_of m) key
 
 -- how a refusal names a transaction of connection j, and a key
@@ -73,7 +75,7 @@ Names met j u key = (met.tid.0 ≡ u.id) × (met.conn ≡ j) × (met.ord ≡ u.o
 -- a put of a key meets nothing: no undecided transaction of another connection has it, and no commit above
 -- the snapshot put it
 abbrev pub IsFree : (ℕ → List Txn) → ℕ → ℕ → List ℕ → Type 0
-IsFree of i snapshot key = (j : ℕ) (u : Txn) → Among u (of j) → Stands u key → ((u.place ≢ 0) ⊎ (j ≡ i)) × (u.place ≤ snapshot)
+IsFree of i snapshot key = (j : ℕ) (u : Txn) → Among u (of j) → HasWritten u key → ((u.place ≢ 0) ⊎ (j ≡ i)) × (u.place ≤ snapshot)
 
 -- a put is refused exactly where something is in its way, which the refusal names
 abbrev pub IsPutAnswer : Machine → ℕ → List ℕ → Txn → Outcome → Type 0
@@ -120,8 +122,11 @@ Answers m event outcome = (IsEnabled m event × IsAnswer m event outcome)
     ⊎ ((IsEnabled m event → ⊥) × (outcome ≡ NotNow))
 
 -- the machine with an entry in a connection's account
+abbrev pub with_entry : Machine → ℕ → Entry → Machine
+with_entry m i entry = record m { accounts = slice_set m.accounts i (entry ∷ account_of m i) }
+
 abbrev pub entered : Machine → ℕ → Event → Outcome → Machine
-entered m i event outcome = record m { accounts = slice_set m.accounts i (record { event = event; outcome = outcome } ∷ account_of m i) }
+entered m i event outcome = with_entry m i (entry_of event outcome)
 
 -- the second machine, but the first one where the event was not enabled
 abbrev pub unless_not_now : Outcome → Machine → Machine → Machine
@@ -153,7 +158,20 @@ after m (Unput i key) outcome = unless_not_now outcome m (entered m i (Unput i k
 after m (End i) outcome = unless_not_now outcome m (entered m i (End i) outcome)
 after m (Purge key) outcome = m
 
--- a run: events with their answers, from one machine to another. The first one stands first, unlike in an account
+-- a step of a run: an event with its answer, or a note. The writes of a transaction are noted once, after its draw,
+-- and what was full is noted once
+abbrev pub IsStep : Machine → Entry → Type 0
+IsStep m (Answered event outcome) = Answers m event outcome
+IsStep m (Reserved i writes) = WhenOpen (txns_of m i) (λ t. (t.id ≢ 0) × (t.weight ≡ None))
+IsStep m (FoundFull i full) = WhenOpen (txns_of m i) (λ t. t.full ≡ None)
+
+-- the machine after a step: a note is entered, and changes nothing else
+abbrev pub after_step : Machine → Entry → Machine
+after_step m (Answered event outcome) = after m event outcome
+after_step m (Reserved i writes) = with_entry m i (Reserved i writes)
+after_step m (FoundFull i full) = with_entry m i (FoundFull i full)
+
+-- a run: steps from one machine to another. The first step comes first, unlike in an account
 abbrev pub Runs : Machine → List Entry → Machine → Type 0
 Runs m [] last = m ≡ last
-Runs m (step ∷ steps) last = Answers m step.event step.outcome × Runs (after m step.event step.outcome) steps last
+Runs m (step ∷ steps) last = IsStep m step × Runs (after_step m step) steps last

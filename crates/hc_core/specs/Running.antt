@@ -15,7 +15,7 @@ abbrev pub HaveSameWrites : List Write → List Write → Type 0
 HaveSameWrites writes others = (w : Write) → Among w writes ↔ Among w others
 
 -- what is kept of an open transaction is what its account shows: the numbers, the keys that it read, the keys
--- that were checked for its proposal and, until it is decided, what stands put
+-- that were checked for its proposal and, until it is decided, what is in the write set
 pub record Matches (r : Running) (t : Txn) : Type 0 where
   pub id : r.tid ≡ t.id
   pub ord : r.ord ≡ t.ord
@@ -24,7 +24,7 @@ pub record Matches (r : Running) (t : Txn) : Type 0 where
   pub place : r.place ≡ t.place
   pub reads : (key : List ℕ) → InAny r.reads key ↔ HasRead t key
   pub checked : (key : List ℕ) → InAny r.checked key ↔ InAny t.checked key
-  pub writes : t.place ≡ 0 → HaveSameWrites r.writes.items t.standing
+  pub writes : t.place ≡ 0 → HaveSameWrites r.writes.items t.write_set
 
 -- what is kept of a connection's open transaction, if it has one
 abbrev pub IsOpenIn : Option Running → List Txn → Type 0
@@ -46,10 +46,10 @@ IsPutOrCheck (Put conn key rec) = Unit {0}
 IsPutOrCheck (Check conn from upto) = Unit {0}
 IsPutOrCheck _ = ⊥
 
--- a proposal stands, it is not decided, and each key that was read was checked for it
+-- it proposes a number and is not decided, and each key that was read was checked for that number
 abbrev pub MayDecide : Running → Type 0
 MayDecide r = (r.proposed ≢ 0) × (r.place ≡ 0) × ((key : List ℕ) → InAny r.reads key → InAny r.checked key)
 
--- an id is drawn, it is not decided, nothing is proposed, and the key does not stand
+-- an id is drawn, it is not decided, nothing is proposed, and the key is not in the write set
 abbrev pub MayPut : Running → List ℕ → Type 0
 MayPut r key = (r.tid ≢ 0) × (r.place ≡ 0) × (r.proposed ≡ 0) × (holds_key key r.writes.items ≡ false)

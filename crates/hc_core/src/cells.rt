@@ -1,8 +1,8 @@
-// What stands under keys, and what a transaction puts there.
+// What keys have, and what a transaction puts there.
 use hc_range::Bytes;
 use sqlite_items::Items;
 
-/// A key with the record that stands under it.
+/// A key with its record.
 #[derive(Debug, Drop)]
 pub struct Cell {
     pub key: Bytes,

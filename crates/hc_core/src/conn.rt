@@ -95,7 +95,7 @@ impl Conn {
         outcome
     }
 
-    /// Enters a read of a range, whose cells are given. After want of memory nothing has happened.
+    /// Enters a read of a range, whose cells are given. Where it runs out of memory nothing has happened.
     pub fn read(
         &mut self,
         conn: u32,
@@ -120,7 +120,7 @@ impl Conn {
         Ok(outcome)
     }
 
-    /// Enters a put. After want of memory nothing has happened. The write is kept, so who may take no memory has to
+    /// Enters a put. Where it runs out of memory nothing has happened. The write is kept, so who may take no memory has to
     /// make room for it before.
     pub fn put(&mut self, conn: u32, event: &Event, write: Write) -> Result<Outcome, NoMemory>
         requires event { event.now ≡ Put conn write.key write.rec }
@@ -168,7 +168,7 @@ impl Conn {
         outcome
     }
 
-    /// Enters a check of a range that found nothing. After want of memory nothing has happened.
+    /// Enters a check of a range that found nothing. Where it runs out of memory nothing has happened.
     pub fn check(&mut self, conn: u32, event: &Event, range: &Range) -> Result<Outcome, NoMemory>
         requires event { event.now ≡ Check conn range.now.lo range.now.hi }
         requires open { WhenOpen (txns self.old) (λ _. Unit {0}) }
@@ -186,14 +186,14 @@ impl Conn {
         Ok(Outcome::Done)
     }
 
-    /// Takes a commit number, and hands over what stands put.
+    /// Takes a commit number, and hands over the write set.
     pub fn decide(&mut self, conn: u32, event: &Event, number: u32) -> (Outcome, Vec<Write>)
         requires event { event.now ≡ Decide conn }
         requires open { WhenOpen (txns self.old) (λ t. t.place ≡ 0) }
         requires number { 0 < number }
         ensures outcome { result.0 ≡ Decided (record { 0 = number }) }
         ensures account { self.new ≡ entry_of event.now result.0 ∷ self.old }
-        ensures writes { WhenOpen (txns self.old) (λ t. HaveSameWrites result.1.items t.standing) }
+        ensures writes { WhenOpen (txns self.old) (λ t. HaveSameWrites result.1.items t.write_set) }
     {
         let Some(mut running) = self.running.take() else {
             unreachable!()

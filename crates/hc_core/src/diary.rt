@@ -22,7 +22,7 @@ impl TableRule<(), Account, ()> for Free {
     ghost first = { λ _. record { entries = [] } };
 }
 
-// The entry that a step adds. `note` picks it from its arguments at its call of `note_as`, so what stands in the
+// The entry that a step adds. `note` picks it from its arguments at its call of `note_as`, so what is in the
 // impl for `Brand` never counts.
 trait Noting {
     ghost entry: { Entry };

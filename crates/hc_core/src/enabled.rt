@@ -16,7 +16,7 @@ pub fn may_put(running: &Running, key: &[u8]) -> bool
         && !has_key(running.writes.as_slice(), key)
 }
 
-/// Whether a proposal stands, it is not decided, and what was read was checked for it.
+/// Whether something is proposed, it is not decided, and what was read was checked for it.
 pub fn may_decide(running: &Running) -> bool
     ensures { IsTrue result ↔ MayDecide running.now }
 {
@@ -37,7 +37,7 @@ pub fn includes_all(log: &ReadLog, ranges: &[Range]) -> bool
     true
 }
 
-/// Whether it is decided, or nothing of it stands.
+/// Whether it is decided, or its write set is empty.
 pub fn may_end(running: &Running) -> bool
     ensures { IsTrue result ↔ ((running.now.place ≢ 0) ⊎ (running.now.writes.items ≡ [])) }
 {

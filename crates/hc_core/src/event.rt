@@ -25,7 +25,7 @@ pub enum Event {
         upto: Option<Bytes>,
     },
     /// Puts a record at a key of at most 463 bytes, or a tombstone, where `rec` is not there. Enabled where its
-    /// transaction has an id, is not decided and proposes nothing, and the key does not stand put in it. The
+    /// transaction has an id, is not decided and proposes nothing, and the key is not in its write set. The
     /// answer is `Done` or `Met`.
     Put {
         conn: u32,
@@ -38,30 +38,30 @@ pub enum Event {
         conn: u32,
     },
     /// Looks whether a key of the part from `from` up to `upto` was put by a commit above the snapshot and below
-    /// the proposed number. Enabled where a proposal stands. The answer is `Done` or `Met`.
+    /// the proposed number. Enabled where something is proposed. The answer is `Done` or `Met`.
     Check {
         conn: u32,
         from: Bytes,
         upto: Option<Bytes>,
     },
-    /// Takes the proposed number, if it is still the next one. Enabled where a proposal stands, its transaction is
+    /// Takes the proposed number, if it is still the next one. Enabled where something is proposed, its transaction is
     /// not decided, and each part that it read lies in the parts that were checked for the proposal. The answer
     /// is `Decided` or `Lost`.
     Decide {
         conn: u32,
     },
-    /// Takes a put back. Enabled where the key stands put and its transaction is not decided. The answer is `Done`.
+    /// Takes a put back. Enabled where the key is in the write set and its transaction is not decided. The answer is `Done`.
     Unput {
         conn: u32,
         key: Bytes,
     },
-    /// Ends the transaction, which is rolled back if it was not decided. Enabled where it is decided or nothing of
-    /// it stands put. The answer is `Done`.
+    /// Ends the transaction, which is rolled back if it was not decided. Enabled where it is decided or its
+    /// write set is empty. The answer is `Done`.
     End {
         conn: u32,
     },
     /// Asks whether a key may be forgotten: its newest version is a committed tombstone that each open transaction
-    /// sees. The answer is `Done`. It changes nothing and stands in no account.
+    /// sees. The answer is `Done`. It changes nothing and is in no account.
     Purge {
         key: Bytes,
     },

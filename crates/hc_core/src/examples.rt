@@ -14,7 +14,7 @@ pub fn write_skew_is_refused()
     ensures { IsTheRun 2 write_skew }
 {}
 
-/// A check finds a version that stands under a newer one.
+/// A check finds a version that is below a newer one.
 pub fn a_version_under_a_newer_one_is_found()
     ensures { IsTheRun 3 under_a_newer_one }
 {}

@@ -1,7 +1,7 @@
 // What follows from the table of the machine alone. Each law is the contract of a function that does nothing.
 // The lemmas in proofs/Kept say the same event by event, of any log and any transactions by connection, and take
 // the facts of an event in place of this machine's answer: they are what another machine can cite.
-ghost use Rattle.hc_core.specs.Laws.{AfterEveryRun, AnEventHasAnAnswer, AnswersAreOne, EachEventKeepsSoundness, EachListOfEventsHasOneRun, FirstCommitterWins, NewIsSound, ReadsAreSnapshots, RefusalsNameWriters, VersionsBeginWithTheFirst};
+ghost use Rattle.hc_core.specs.Laws.{AfterEveryRun, AnEventHasAnAnswer, AnswersAreOne, EachEventKeepsSoundness, EachListOfEventsHasOneRun, FirstCommitterWins, NewIsSound, ReadsAreSnapshots, RefusalsNameWriters, VersionsBeginWithTheLatest};
 ghost use Rattle.hc_core.specs.Sound.{IsSound};
 
 /// A new machine is sound, for any number of connections.
@@ -41,8 +41,8 @@ pub fn every_run_is_sound()
     ensures refusals { AfterEveryRun RefusalsNameWriters }
 {}
 
-/// The versions of a key are the transactions in which it stands put, the newest first; the machine's table
-/// asks for the first of them alone.
-pub fn the_versions_of_a_key_begin_with_the_first()
-    ensures { VersionsBeginWithTheFirst }
+/// The versions of a key are the transactions that have it in their write sets, the newest first; the machine's
+/// table asks for the latest of them alone.
+pub fn the_versions_of_a_key_begin_with_the_latest()
+    ensures { VersionsBeginWithTheLatest }
 {}

@@ -12,6 +12,8 @@ mod cells;
 mod commit;
 mod conn;
 mod copying;
+mod cut_desk;
+mod desk;
 mod diary;
 mod enabled;
 mod event;
@@ -22,15 +24,15 @@ mod machine;
 mod outcome;
 mod reading;
 mod running;
-#[cfg(test)]
-mod tests;
+mod stop;
 mod writers;
 
 pub use account::{Account, Entry};
 pub use cells::{Cell, Part, Write};
+pub use cut_desk::CutDesk;
+pub use desk::Desk;
 pub use event::Event;
+pub use hc_range::NoMemory;
 pub use machine::Core;
 pub use outcome::{Lost, Met, Outcome};
-
-/// An allocation was refused. It has no further cause.
-pub type NoMemory = std::alloc::AllocError;
+pub use stop::{Next, ReserveFault};

@@ -1,5 +1,5 @@
 ghost use Rattle.std.specs.Prelude.{◌≡◌, ℕ, ◌<◌, ◌≤◌, [], Option, None, MatchOption, IfOk, OnErr, length, replicate};
-ghost use Rattle.hc_core.specs.Account.{IsIdle, Stands, Txn, WhenOpen};
+ghost use Rattle.hc_core.specs.Account.{IsIdle, HasWritten, Txn, WhenOpen};
 ghost use Rattle.hc_core.specs.Kept.{MayTakeMemory, PutsShortKey};
 ghost use Rattle.hc_core.specs.Machine.{Answers, IsFree, Names, after, start, txns_of};
 ghost use Rattle.hc_core.specs.Running.{Matches};
@@ -22,7 +22,7 @@ use std::alloc::Global;
 use std::marker::Model;
 
 /// The transaction machine of some number of connections, over lists. Contracts see the ids of the log
-/// and the account of each connection. It is the yardstick of every faster body, and plain on purpose.
+/// and the account of each connection. It is the reference model of every faster body, and plain on purpose.
 #[derive(Drop)]
 pub struct Core {
     alloc: Global,
@@ -246,7 +246,7 @@ impl Core {
         requires { length key.now ≤ 463 }
         ensures { MatchOption result
             ((i : ℕ) → IsFree (txns_of self.now) i snapshot key.now)
-            (λ met. (i : ℕ) → (WhenOpen (txns_of self.now i) (λ t. (t.place ≡ 0) × Stands t key.now) → ⊥)
+            (λ met. (i : ℕ) → (WhenOpen (txns_of self.now i) (λ t. (t.place ≡ 0) × HasWritten t key.now) → ⊥)
             → (j : ℕ) × (u : Txn) × IsInTheWay (txns_of self.now) i snapshot key.now j u × Names met j u key.now) }
     {
         if let Some(met) = open_writer(self.conns.as_slice(), key) {

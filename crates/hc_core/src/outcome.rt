@@ -1,9 +1,11 @@
 use crate::Part;
 use hc_base::{Cid, Tid};
 use hc_range::KeyBuf;
+use thiserror::Error;
 
 /// A transaction of another connection that put a key which this one puts or checks.
-#[derive(Debug, Clone, Copy, PartialEq, Eq)]
+#[derive(Debug, Clone, Copy, PartialEq, Eq, Error)]
+#[error("transaction {ord} of connection {conn} put the key")]
 pub struct Met {
     /// The other's id.
     pub tid: Tid,
@@ -16,7 +18,8 @@ pub struct Met {
 }
 
 /// The commit number that this transaction had proposed, and that another one took.
-#[derive(Debug, Clone, Copy, PartialEq, Eq)]
+#[derive(Debug, Clone, Copy, PartialEq, Eq, Error)]
+#[error("commit number {} was taken by the transaction with id {}", .cid.0, .other.0)]
 pub struct Lost {
     /// The number.
     pub cid: Cid,

@@ -18,7 +18,7 @@ pub struct Running {
     pub place: u32,
     /// The keys that it read.
     pub reads: ReadLog,
-    /// What stands put, until it is decided.
+    /// The write set, until it is decided.
     pub writes: Vec<Write>,
     /// The keys that were checked for the proposal.
     pub checked: ReadLog,

@@ -1,6 +1,6 @@
 // Questions to the open transactions of all connections.
 ghost use Rattle.std.specs.Prelude.{◌≡◌, ◌↔◌, ℕ, ◌<◌, ◌≤◌, ◌^◌, [], IsTrue, MatchOption, length, get_or, true, false};
-ghost use Rattle.hc_core.specs.Account.{Stands, WhenOpen, txns};
+ghost use Rattle.hc_core.specs.Account.{HasWritten, WhenOpen, txns};
 ghost use Rattle.hc_core.specs.Machine.{Names};
 
 use crate::Met;
@@ -9,11 +9,11 @@ use crate::running::has_key;
 use hc_base::Tid;
 use hc_range::KeyBuf;
 
-/// The id and the ordinal of a connection's open transaction, if it is undecided and has a key standing.
+/// The id and the ordinal of a connection's open transaction, if it is undecided and has a key in its write set.
 pub fn writer_in(conn: &Conn, key: &[u8]) -> Option<(u32, u32)>
     ensures { MatchOption result
-        (WhenOpen (txns conn.now) (λ t. (t.place ≡ 0) × Stands t key.now) → ⊥)
-        (λ writer. WhenOpen (txns conn.now) (λ t. (t.place ≡ 0) × Stands t key.now × (writer.0 ≡ t.id) × (writer.1 ≡ t.ord))) }
+        (WhenOpen (txns conn.now) (λ t. (t.place ≡ 0) × HasWritten t key.now) → ⊥)
+        (λ writer. WhenOpen (txns conn.now) (λ t. (t.place ≡ 0) × HasWritten t key.now × (writer.0 ≡ t.id) × (writer.1 ≡ t.ord))) }
 {
     let Some(running) = conn.running() else {
         return None;
@@ -27,13 +27,13 @@ pub fn writer_in(conn: &Conn, key: &[u8]) -> Option<(u32, u32)>
     Some((running.tid, running.ord))
 }
 
-/// The undecided transaction in which a key stands put, if there is one.
+/// The undecided transaction that has a key in its write set, if there is one.
 pub fn open_writer(conns: &[Conn], key: &[u8]) -> Option<Met>
     requires short { length key.now ≤ 463 }
     requires few { length conns.now < 2 ^ 32 }
     ensures { MatchOption result
-        ((i : ℕ) → WhenOpen (txns (get_or conns.now i [])) (λ t. (t.place ≡ 0) × Stands t key.now) → ⊥)
-        (λ met. WhenOpen (txns (get_or conns.now met.conn [])) (λ t. (t.place ≡ 0) × Stands t key.now × Names met met.conn t key.now)) }
+        ((i : ℕ) → WhenOpen (txns (get_or conns.now i [])) (λ t. (t.place ≡ 0) × HasWritten t key.now) → ⊥)
+        (λ met. WhenOpen (txns (get_or conns.now met.conn [])) (λ t. (t.place ≡ 0) × HasWritten t key.now × Names met met.conn t key.now)) }
 {
     for conn in 0..conns.len() {
         if let Some((tid, ord)) = writer_in(&conns[conn], key) {
@@ -48,10 +48,10 @@ pub fn open_writer(conns: &[Conn], key: &[u8]) -> Option<Met>
     None
 }
 
-/// Whether a key stands put in an undecided transaction.
+/// Whether a key is in the write set of an undecided transaction.
 pub fn has_writer(conns: &[Conn], key: &[u8]) -> bool
-    ensures yes { result ≡ true → (i : ℕ) × WhenOpen (txns (get_or conns.now i [])) (λ t. (t.place ≡ 0) × Stands t key.now) }
-    ensures none { result ≡ false → (i : ℕ) → WhenOpen (txns (get_or conns.now i [])) (λ t. (t.place ≡ 0) × Stands t key.now) → ⊥ }
+    ensures yes { result ≡ true → (i : ℕ) × WhenOpen (txns (get_or conns.now i [])) (λ t. (t.place ≡ 0) × HasWritten t key.now) }
+    ensures none { result ≡ false → (i : ℕ) → WhenOpen (txns (get_or conns.now i [])) (λ t. (t.place ≡ 0) × HasWritten t key.now) → ⊥ }
 {
     for conn in 0..conns.len() {
         if let Some(_writer) = writer_in(&conns[conn], key) {

@@ -1,7 +1,7 @@
 -- How a count of faults shows that a failure came from outside.
 use Rattle.std.specs.Prelude.{ℕ, ◌+◌, ◌-◌, ◌^◌, ◌≤◌, min, Result, OnErr}
 
--- It is above what it was before, or stands at the greatest value of a u64, where it stays.
+-- It is above what it was before, or is at the greatest value of a u64, where it stays.
 abbrev pub Rose : ℕ → ℕ → Type 0
 Rose before now = min (before + 1) (2 ^ 64 - 1) ≤ now
 

@@ -1,4 +1,4 @@
--- What stands behind a source or a sink over the standard library, and how often it failed.
+-- The reader or writer of a source or a sink over the standard library, and how often it failed.
 use Rattle.std.specs.Prelude.{ℕ}
 use Rattle.hc_io.specs.declared.standard.StdSource.{StdSource}
 use Rattle.hc_io.specs.declared.standard.StdSink.{StdSink}

@@ -13,7 +13,7 @@ ReadsIfTold None rest buffer n = ⊤
 ReadsIfTold (Some left) None buffer n = ⊥
 ReadsIfTold (Some left) (Some rest) buffer n = Reads left rest buffer n
 
--- the first n bytes of the piece stand behind what was written before
+-- the first n bytes of the piece follow what was written before
 abbrev pub WritesIfTold : Option (List ℕ) → Option (List ℕ) → List ℕ → ℕ → Type 0
 WritesIfTold None after piece n = ⊤
 WritesIfTold (Some before) None piece n = ⊥

@@ -1,10 +1,10 @@
 //! Where input comes from and where output goes, as two traits with what a caller may rest on.
 //!
 //! A source may tell contracts which bytes it has left, and a sink which bytes were written.
-//! Each keeps a count of faults that never falls, and fails only where the count rose: so a
-//! program over them cannot claim a failure that did not happen. `MemSource` and `MemSink` tell
-//! everything and fail at the calls that a test lists, a sink also where its room is gone;
-//! `SureSource` never fails. `StdSource` and `StdSink` stand over the real streams and tell no
+//! Each has a count of faults that never falls, and fails only where the count rose or is at the
+//! greatest u64: so a program over them cannot claim a failure that did not happen. `MemSource` and
+//! `MemSink` tell everything and fail at the calls that a test lists, a sink also where its room is gone;
+//! `SureSource` never fails. `StdSource` and `StdSink` are over the real streams and tell no
 //! bytes: what a file or a terminal carries is not proved.
 #![tactic(auto)]
 
@@ -14,8 +14,6 @@ mod memory_source;
 mod sink;
 mod source;
 mod standard;
-#[cfg(test)]
-mod tests;
 
 pub use memory_sink::MemSink;
 pub use memory_source::{MemSource, SureSource};

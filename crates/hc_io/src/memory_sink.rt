@@ -39,8 +39,8 @@ impl MemSink {
             written,
             room,
             step,
-            calls: 0,
             fails,
+            calls: 0,
             faults: 0,
         })
     }

@@ -1,6 +1,7 @@
 // Bytes in memory as a source: one whose reads fail where a test lists it, and one that never does.
 ghost use Rattle.std.specs.Prelude.{◌≡◌, ◌+◌, ◌-◌, ◌≤◌, ◌++◌, ◌↔◌, min, length, drop, take, Some, IsOk, IsErr, IfOk, OnErr, Contains};
 ghost use Rattle.hc_io.specs.Faults.{HasCause, one_more};
+ghost use Rattle.hc_io.specs.Memory.{left_in, sure_left_in};
 ghost use Rattle.hc_io.specs.Transfer.{Reads};
 
 use crate::listed::is_listed;
@@ -26,9 +27,9 @@ pub struct MemSource {
 /// Bytes in memory whose reads never fail.
 #[derive(Debug, Drop)]
 pub struct SureSource {
-    /// All its bytes, those that were read too.
+    /// All its bytes, read and unread.
     pub bytes: Bytes,
-    /// How many bytes were read.
+    /// How many of them were read.
     pub at: u64,
 }
 
@@ -57,17 +58,15 @@ impl SureSource {
 }
 
 impl Source for MemSource {
-    ghost left = { λ source. Some (drop source.at source.bytes) };
+    ghost left = { λ source. Some (left_in source) };
 
     ghost faults = { λ source. source.faults };
 
     /// It fails exactly where the number of this call is listed, and else reads all that fits.
     fn read(&mut self, buffer: &mut [u8]) -> Result<usize, Failed>
         ensures within { IfOk result (λ n. n ≤ length buffer.new) }
-        ensures bytes { IfOk result (λ n. Reads (drop self.old.at self.old.bytes)
-            (drop self.new.at self.new.bytes) buffer.new n) }
-        ensures failed { OnErr result (drop self.new.at self.new.bytes
-            ≡ drop self.old.at self.old.bytes) }
+        ensures bytes { IfOk result (λ n. Reads (left_in self.old) (left_in self.new) buffer.new n) }
+        ensures failed { OnErr result (left_in self.new ≡ left_in self.old) }
         ensures cause { HasCause self.old.faults self.new.faults result }
 
         // When it fails, how much it reads, and the whole source and buffer after it.
@@ -89,24 +88,20 @@ impl Source for MemSource {
             self.faults = self.faults.saturating_add(1);
             return Err(Failed);
         }
-        let count = read_from(self.bytes.as_slice(), self.at, buffer);
-        self.at += count as u64;
-        Ok(count)
+        Ok(read_on(self.bytes.as_slice(), &mut self.at, buffer))
     }
 }
 
 impl Source for SureSource {
-    ghost left = { λ source. Some (drop source.at source.bytes) };
+    ghost left = { λ source. Some (sure_left_in source) };
 
     ghost faults = { λ _. 0 };
 
     /// It reads all that fits.
     fn read(&mut self, buffer: &mut [u8]) -> Result<usize, Failed>
         ensures within { IfOk result (λ n. n ≤ length buffer.new) }
-        ensures bytes { IfOk result (λ n. Reads (drop self.old.at self.old.bytes)
-            (drop self.new.at self.new.bytes) buffer.new n) }
-        ensures failed { OnErr result (drop self.new.at self.new.bytes
-            ≡ drop self.old.at self.old.bytes) }
+        ensures bytes { IfOk result (λ n. Reads (sure_left_in self.old) (sure_left_in self.new) buffer.new n) }
+        ensures failed { OnErr result (sure_left_in self.new ≡ sure_left_in self.old) }
         ensures cause { HasCause 0 0 result }
 
         // It never fails; how much it reads, and the whole source and buffer after it.
@@ -115,21 +110,22 @@ impl Source for SureSource {
         ensures ok { IfOk result (λ n. self.new ≡ record self.old { at = self.old.at + n }) }
         ensures rest { IfOk result (λ n. drop n buffer.new ≡ drop n buffer.old) }
     {
-        let count = read_from(self.bytes.as_slice(), self.at, buffer);
-        self.at += count as u64;
-        Ok(count)
+        Ok(read_on(self.bytes.as_slice(), &mut self.at, buffer))
     }
 }
 
-// Reads from the bytes behind the first `at`, as many as are left and as fit into `buffer`.
-fn read_from(bytes: &[u8], at: u64, buffer: &mut [u8]) -> usize
-    ensures count { result ≡ min (length buffer.old) (length bytes.now - at) }
-    ensures copied { buffer.new ≡ take result (drop at bytes.now) ++ drop result buffer.old }
-    ensures reads { Reads (drop at bytes.now) (drop (at + result) bytes.now) buffer.new result }
+// Reads from the bytes after the first `at`, as many as are left and as fit into `buffer`, and counts
+// them to `at`.
+fn read_on(bytes: &[u8], at: &mut u64, buffer: &mut [u8]) -> usize
+    ensures count { result ≡ min (length buffer.old) (length bytes.now - at.old) }
+    ensures at { at.new ≡ at.old + result }
+    ensures copied { buffer.new ≡ take result (drop at.old bytes.now) ++ drop result buffer.old }
+    ensures reads { Reads (drop at.old bytes.now) (drop at.new bytes.now) buffer.new result }
 {
-    let start = bytes.len().min(at as usize);
+    let start = bytes.len().min(*at as usize);
     let left = &bytes[start..];
     let count = buffer.len().min(left.len());
     buffer[..count].copy_from_slice(&left[..count]);
+    *at += count as u64;
     count
 }

@@ -13,7 +13,7 @@ pub trait Sink {
     ghost faults: { Self → ℕ };
 
     /// Writes the first bytes of `piece`, and answers how many: at most its length, and at least
-    /// one where it is not empty. `Failed` writes none.
+    /// one where it is not empty. `Failed` writes none, where the sink tells its bytes.
     fn write(&mut self, piece: &[u8]) -> Result<usize, Failed>
         ensures within { IfOk result (λ n. n ≤ length piece.now) }
         ensures some { 0 < length piece.now → IfOk result (λ n. 0 < n) }

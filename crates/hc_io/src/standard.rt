@@ -1,6 +1,6 @@
 // The streams of the standard library as a source and a sink.
 //
-// They tell no bytes: what a file or a terminal gives and takes stands outside of every proof. What
+// They tell no bytes: what a file or a terminal gives and takes is outside of every proof. What
 // is proved is that no byte is lost or made up where the stream knows its bytes, and that each call
 // that fails here is counted. That a call fails exactly where the stream's does, or where a writer
 // takes nothing, is only tested: the library's streams say nothing of their errors in contracts.

@@ -7,7 +7,7 @@ use Rattle.std.specs.Int.{bytes_high_first, byte_at}
 use Rattle.std.proofs.lemmas.Cmp.{nat_cmp_total, tied_itself, ranked, int_ranked}
 use Rattle.std.proofs.lemmas.Int.{ints}
 use Rattle.hc_key.specs.Keys.{turned, escaped, ended}
-use Rattle.hc_range.proofs.ByteStrings.{one_byte_more, byte_at-is}
+use Rattle.hc_text.proofs.ByteStrings.{one_byte_more, byte_at-is}
 
 -- the order of byte strings
 abbrev pub bytes_cmp : List ℕ → List ℕ → Ordering

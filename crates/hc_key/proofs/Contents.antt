@@ -2,38 +2,38 @@
 use Rattle.std.proofs.Common.{◌≡◌, ℕ, zero, suc, ◌+◌, ◌-◌, ◌<◌, List, [], ◌∷◌, ◌++◌, length, refl, sym, ap, subst, ◌∙◌, arith, append_assoc}
 use Rattle.std.proofs.lemmas.List.{append-nil, length-append}
 use Rattle.std.proofs.lemmas.List.Concat.{flat_map-append}
-use Rattle.hc_value.specs.declared.expected.Expected.{Expected}
+use Rattle.hc_text.specs.declared.utf8.Expected.{Expected}
 use Rattle.hc_key.specs.Keys.{escape, escaped, ended}
 use Rattle.hc_key.specs.Reading.{IsContent, BeginsOne, NoneGoesOn, IsFaultOf, IsPartFault}
-use Rattle.hc_value.specs.Expected.{Completes, IsOpen, IsNext, IsRefused, GoesOn}
-use Rattle.hc_value.proofs.Ends.{some_completes}
+use Rattle.hc_text.specs.Utf8.{Completes, IsOpen, IsNext, IsRefused, HasRead}
+use Rattle.hc_text.proofs.Ends.{some_completes}
 use Rattle.hc_key.specs.declared.fault.KeyFault.{KeyFault}
 use Rattle.hc_key.specs.declared.fault.KeyFault.TheVariants.{Bad}
 use Rattle.hc_key.proofs.Bytes.{closed}
 
 -- ---- one byte more
 
--- after one byte more, what is left to expect is what is expected behind that byte
-pub goes_further : (f e n : Expected) (out : List ℕ) (b : ℕ) → GoesOn f out e → IsNext e b n → GoesOn f (out ++ b ∷ []) n
+-- after one byte more, what is left to expect is what is expected after that byte
+pub goes_further : (f e n : Expected) (out : List ℕ) (b : ℕ) → HasRead f out e → IsNext e b n → HasRead f (out ++ b ∷ []) n
 goes_further f e n out b goes next x =
     let same : (out ++ b ∷ []) ++ x ≡ out ++ b ∷ x = append_assoc out (b ∷ []) x in (
       λ h. subst (Completes f) (sym same) ((goes (b ∷ x)).0 ((next.1 x).0 h)),
       λ h. (next.1 x).1 ((goes (b ∷ x)).1 (subst (Completes f) same h)),
     )
 
--- one byte more is escaped behind the others
+-- one byte more is escaped after the others
 escaped_more : (out : List ℕ) (b : ℕ) (left : List ℕ) → escaped (out ++ b ∷ []) ++ left ≡ escaped out ++ (escape b ++ left)
 escaped_more out b left =
     ap (λ (l : List ℕ). l ++ left) (flat_map-append escape out (b ∷ []) ∙ ap (λ (l : List ℕ). escaped out ++ l) (append-nil (escape b)))
     ∙ append_assoc (escaped out) (escape b) left
 
--- where a byte's escape stands next, the bytes begin with what was read and that byte
+-- where a byte's escape is next, the bytes begin with what was read and that byte
 pub written_further : (bytes out rest after left : List ℕ) (b : ℕ) → bytes ≡ escaped out ++ rest → rest ≡ b ∷ after → b ∷ after ≡ escape b ++ left → bytes ≡ escaped (out ++ b ∷ []) ++ left
-written_further bytes out rest after left b all first behind =
-    all ∙ ap (λ (l : List ℕ). escaped out ++ l) (first ∙ behind) ∙ sym (escaped_more out b left)
+written_further bytes out rest after left b all first next =
+    all ∙ ap (λ (l : List ℕ). escaped out ++ l) (first ∙ next) ∙ sym (escaped_more out b left)
 
--- where the two zeros of the end stand next, what was read is a whole content
-pub all_read : (f e : Expected) (bytes out rest left : List ℕ) → GoesOn f out e → Completes e [] → bytes ≡ escaped out ++ rest → rest ≡ 0 ∷ 0 ∷ left
+-- where the two zeros of the end are next, what was read is a whole content
+pub all_read : (f e : Expected) (bytes out rest left : List ℕ) → HasRead f out e → Completes e [] → bytes ≡ escaped out ++ rest → rest ≡ 0 ∷ 0 ∷ left
     → (bytes ≡ ended out ++ left) × Completes f out
 all_read f e bytes out rest left goes done all there = (
   all ∙ ap (λ (l : List ℕ). escaped out ++ l) there ∙ sym (append_assoc (escaped out) (0 ∷ 0 ∷ []) left),
@@ -43,7 +43,7 @@ all_read f e bytes out rest left goes done all there = (
 -- ---- faults
 
 -- what was read so far begins a content, where more may come
-begins_here : (f e : Expected) (out : List ℕ) → IsOpen e → GoesOn f out e → BeginsOne (IsContent f) (escaped out)
+begins_here : (f e : Expected) (out : List ℕ) → IsOpen e → HasRead f out e → BeginsOne (IsContent f) (escaped out)
 begins_here f e out alive goes =
     let some = some_completes e alive in (
       ended some.0,
@@ -54,8 +54,8 @@ begins_here f e out alive goes =
       ),
     )
 
--- so does it with a 0 behind it, where a byte of 0 may come
-begins_zero : (f e n : Expected) (out : List ℕ) → GoesOn f out e → IsNext e 0 n → BeginsOne (IsContent f) (escaped out ++ 0 ∷ [])
+-- so does it with a 0 after it, where a byte of 0 may come
+begins_zero : (f e n : Expected) (out : List ℕ) → HasRead f out e → IsNext e 0 n → BeginsOne (IsContent f) (escaped out ++ 0 ∷ [])
 begins_zero f e n out goes next =
     let some = some_completes n next.0 in (
       255 ∷ ended some.0,
@@ -69,32 +69,32 @@ begins_zero f e n out goes next =
     )
 
 -- bytes that begin with what was read are those of a content that begins so
-behind_read : (out c r y : List ℕ) → escaped c ++ closed r ≡ escaped out ++ y → (d : List ℕ) × (c ≡ out ++ d) × (escaped d ++ closed r ≡ y)
-behind_read [] c r y e = (c, refl, e)
-behind_read (zero ∷ out) [] r y e = let h : ◌≡◌ {A = ℕ} 0 255 = cc in absurd (omega (arith, h))
-behind_read (zero ∷ out) (zero ∷ c) r y e =
+after_read : (out c r y : List ℕ) → escaped c ++ closed r ≡ escaped out ++ y → (d : List ℕ) × (c ≡ out ++ d) × (escaped d ++ closed r ≡ y)
+after_read [] c r y e = (c, refl, e)
+after_read (zero ∷ out) [] r y e = let h : ◌≡◌ {A = ℕ} 0 255 = cc in absurd (omega (arith, h))
+after_read (zero ∷ out) (zero ∷ c) r y e =
     let h : escaped c ++ closed r ≡ escaped out ++ y = cc in
-    let more = behind_read out c r y h in
+    let more = after_read out c r y h in
     (more.0, ap (λ (l : List ℕ). zero ∷ l) more.1, more.2)
-behind_read (zero ∷ out) (suc d ∷ c) r y e = let h : suc d ≡ 0 = cc in absurd (omega (arith, h))
-behind_read (suc o ∷ out) [] r y e = let h : 0 ≡ suc o = cc in absurd (omega (arith, h))
-behind_read (suc o ∷ out) (zero ∷ c) r y e = let h : 0 ≡ suc o = cc in absurd (omega (arith, h))
-behind_read (suc o ∷ out) (suc d ∷ c) r y e =
+after_read (zero ∷ out) (suc d ∷ c) r y e = let h : suc d ≡ 0 = cc in absurd (omega (arith, h))
+after_read (suc o ∷ out) [] r y e = let h : 0 ≡ suc o = cc in absurd (omega (arith, h))
+after_read (suc o ∷ out) (zero ∷ c) r y e = let h : 0 ≡ suc o = cc in absurd (omega (arith, h))
+after_read (suc o ∷ out) (suc d ∷ c) r y e =
     let h : escaped c ++ closed r ≡ escaped out ++ y = cc in
     let first : suc d ≡ suc o = cc in
-    let more = behind_read out c r y h in
+    let more = after_read out c r y h in
     (more.0, ap (λ (b : ℕ). b ∷ c) first ∙ ap (λ (l : List ℕ). suc o ∷ l) more.1, more.2)
 
--- what may come behind what was read does not go on so
+-- what may come after what was read does not go on so
 abbrev CannotGoOn : Expected → List ℕ → Type 0
 CannotGoOn e y = (d r : List ℕ) → Completes e d → escaped d ++ closed r ≡ y → ⊥
 
--- where what is expected cannot go on as the bytes do, no content stands at their front
-none_goes_on : (f e : Expected) (out y before : List ℕ) → GoesOn f out e → before ≡ escaped out ++ y → CannotGoOn e y → (one more : List ℕ) → IsContent f one → one ++ more ≡ before → ⊥
+-- where what is expected cannot go on as the bytes do, no content is at their front
+none_goes_on : (f e : Expected) (out y before : List ℕ) → HasRead f out e → before ≡ escaped out ++ y → CannotGoOn e y → (one more : List ℕ) → IsContent f one → one ++ more ≡ before → ⊥
 none_goes_on f e out y before goes split cannot one more content same =
     let start : escaped content.0 ++ closed more ≡ escaped out ++ y =
     sym (append_assoc (escaped content.0) (0 ∷ 0 ∷ []) more) ∙ ap (λ (l : List ℕ). l ++ more) content.2 ∙ same ∙ split in
-    let found = behind_read out content.0 more y start in
+    let found = after_read out content.0 more y start in
     cannot found.0 more ((goes found.0).1 (subst (Completes f) found.1 content.1)) found.2
 
 -- no content ends where no bytes are left: two zeros end it
@@ -103,7 +103,7 @@ cannot_end e [] r c h = cc
 cannot_end e (zero ∷ d) r c h = cc
 cannot_end e (suc b ∷ d) r c h = cc
 
--- a refused byte cannot stand there, and no content ends there for an escape or an end to begin with it
+-- a refused byte cannot come there, and no content ends there for an escape or an end to begin with it
 cannot_refused : (e : Expected) (b : ℕ) (s : List ℕ) → (b < 128 → Completes e [] → ⊥) → IsRefused e b → CannotGoOn e (b ∷ s)
 cannot_refused e zero s no_end refused [] r c h = no_end (omega arith) c
 cannot_refused e zero s no_end refused (zero ∷ d) r c h = refused d c
@@ -119,14 +119,14 @@ cannot_zero_end e [] r c h = cc
 cannot_zero_end e (zero ∷ d) r c h = cc
 cannot_zero_end e (suc b ∷ d) r c h = let k : suc b ≡ 0 = cc in omega (arith, k)
 
--- nor does one go on where behind a 0 stands neither 0 nor FF
+-- nor does one go on where after a 0 there is neither 0 nor FF
 cannot_zero_other : (e : Expected) (x : ℕ) (s : List ℕ) → (x ≡ 0 → ⊥) → (x ≡ 255 → ⊥) → CannotGoOn e (0 ∷ x ∷ s)
 cannot_zero_other e x s p q [] r c h = p cc
 cannot_zero_other e x s p q (zero ∷ d) r c h = q cc
 cannot_zero_other e x s p q (suc b ∷ d) r c h = let k : suc b ≡ 0 = cc in omega (arith, k)
 
 -- bytes that end within a content are at fault at their end
-pub fault_at_end : (f e : Expected) (bytes out rest : List ℕ) → IsOpen e → GoesOn f out e → bytes ≡ escaped out ++ rest → rest ≡ [] → IsFaultOf (IsContent f) bytes (length (escaped out))
+pub fault_at_end : (f e : Expected) (bytes out rest : List ℕ) → IsOpen e → HasRead f out e → bytes ≡ escaped out ++ rest → rest ≡ [] → IsFaultOf (IsContent f) bytes (length (escaped out))
 fault_at_end f e bytes out rest alive goes all none = (
   escaped out,
   [],
@@ -136,8 +136,8 @@ fault_at_end f e bytes out rest alive goes all none = (
   none_goes_on f e out [] (escaped out) goes (sym (append-nil (escaped out))) (cannot_end e),
 )
 
--- a refused byte is at fault where it stands
-pub fault_at_byte : (f e : Expected) (bytes out rest after : List ℕ) (b : ℕ) → IsOpen e → GoesOn f out e → bytes ≡ escaped out ++ rest → rest ≡ b ∷ after → (b < 128 → Completes e [] → ⊥) → IsRefused e b → IsFaultOf (IsContent f) bytes (length (escaped out))
+-- a refused byte is at fault where it is
+pub fault_at_byte : (f e : Expected) (bytes out rest after : List ℕ) (b : ℕ) → IsOpen e → HasRead f out e → bytes ≡ escaped out ++ rest → rest ≡ b ∷ after → (b < 128 → Completes e [] → ⊥) → IsRefused e b → IsFaultOf (IsContent f) bytes (length (escaped out))
 fault_at_byte f e bytes out rest after b alive goes all first no_end refused = (
   escaped out,
   b ∷ after,
@@ -147,10 +147,10 @@ fault_at_byte f e bytes out rest after b alive goes all first no_end refused = (
   λ one more s content same. none_goes_on f e out (b ∷ s) (escaped out ++ b ∷ s) goes refl (cannot_refused e b s no_end refused) one more content same,
 )
 
--- a byte behind a 0 that is neither 0 nor FF is at fault, and so is an end there
-pub fault_behind_zero : (f e n : Expected) (bytes out rest after : List ℕ) → GoesOn f out e → IsNext e 0 n → bytes ≡ escaped out ++ rest → rest ≡ 0 ∷ after
+-- a byte after a 0 that is neither 0 nor FF is at fault, and so is an end there
+pub fault_after_zero : (f e n : Expected) (bytes out rest after : List ℕ) → HasRead f out e → IsNext e 0 n → bytes ≡ escaped out ++ rest → rest ≡ 0 ∷ after
     → ((l : List ℕ) → after ≡ 0 ∷ l → ⊥) → ((l : List ℕ) → after ≡ 255 ∷ l → ⊥) → IsFaultOf (IsContent f) bytes (length (escaped out) + 1)
-fault_behind_zero f e n bytes out rest after goes next all first p q = (
+fault_after_zero f e n bytes out rest after goes next all first p q = (
   escaped out ++ 0 ∷ [],
   after,
   all ∙ ap (λ (l : List ℕ). escaped out ++ l) first ∙ sym (append_assoc (escaped out) (0 ∷ []) after),

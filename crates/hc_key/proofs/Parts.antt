@@ -1,4 +1,4 @@
--- A value behind its class: what was read of it, and where its fault is.
+-- A value after its class: what was read of it, and where its fault is.
 use Rattle.std.proofs.Common.{◌≡◌, ℕ, ◌+◌, ◌-◌, ◌^◌, ◌<◌, ◌≤◌, ℤ, pos, negsuc, List, [], ◌∷◌, ◌++◌, length, take, drop, refl, sym, ap, subst, ◌∙◌, arith, inl, inr, w32, w64, FitsSigned}
 use Rattle.std.specs.Prelude.{replicate}
 use Rattle.std.specs.Str.{IsUtf8}
@@ -9,14 +9,14 @@ use Rattle.std.proofs.lemmas.List.{append-nil, length-append, length-replicate, 
 use Rattle.hc_value.specs.declared.value.Value.{Value}
 use Rattle.hc_value.specs.declared.value.Value.TheVariants.{Null, Int, Text, Blob}
 use Rattle.hc_value.specs.Values.{IsValue}
-use Rattle.hc_value.specs.declared.expected.Expected.{Expected}
-use Rattle.hc_value.specs.declared.expected.Expected.TheVariants.{Any, Character}
+use Rattle.hc_text.specs.declared.utf8.Expected.{Expected}
+use Rattle.hc_text.specs.declared.utf8.Expected.TheVariants.{Any, Character}
 use Rattle.hc_key.specs.declared.fault.KeyFault.{KeyFault}
 use Rattle.hc_key.specs.declared.fault.KeyFault.TheVariants.{Bad, NoMemory}
 use Rattle.hc_key.specs.Keys.{turned, ended, value_bytes}
 use Rattle.hc_key.specs.Reading.{IsContent, IsValuePart, NoneGoesOn, IsFaultOf, IsPartFault}
-use Rattle.hc_value.specs.Expected.{Completes}
-use Rattle.hc_range.proofs.ByteStrings.{IsBytes, IsBytes-padded, IsBytes-take}
+use Rattle.hc_text.specs.Utf8.{Completes}
+use Rattle.hc_text.proofs.ByteStrings.{IsBytes, IsBytes-padded, IsBytes-take}
 
 -- ---- values by their classes
 
@@ -73,17 +73,17 @@ IsClassOf k f =
     × ((v : Value) (more y : List ℕ) → IsValue v → value_bytes v ++ more ≡ k ∷ y → (c : List ℕ) × Completes f c × (ended c ++ more ≡ y))
 
 -- where no content goes on so, no value of the class does
-none_behind : (k : ℕ) (f : Expected) → IsClassOf k f → (before after : List ℕ) → NoneGoesOn (IsContent f) before after → NoneGoesOn IsValuePart (k ∷ before) after
-none_behind k f is before [] none = λ one more part same.
+none_after : (k : ℕ) (f : Expected) → IsClassOf k f → (before after : List ℕ) → NoneGoesOn (IsContent f) before after → NoneGoesOn IsValuePart (k ∷ before) after
+none_after k f is before [] none = λ one more part same.
     let found = is.1 part.0 more before part.1 (ap (λ (l : List ℕ). l ++ more) part.2 ∙ same) in
     none (ended found.0) more (found.0, found.1, refl) found.2
-none_behind k f is before (b ∷ after) none = λ one more rest part same.
+none_after k f is before (b ∷ after) none = λ one more rest part same.
     let found = is.1 part.0 more (before ++ b ∷ rest) part.1 (ap (λ (l : List ℕ). l ++ more) part.2 ∙ same) in
     none (ended found.0) more rest (found.0, found.1, refl) found.2
 
 -- a fault in a content is one in its value, a byte later
-behind_class : (k : ℕ) (f : Expected) → IsClassOf k f → (rest : List ℕ) (step : ℕ) → IsFaultOf (IsContent f) rest step → IsFaultOf IsValuePart (k ∷ rest) (step + 1)
-behind_class k f is rest step fault =
+after_class : (k : ℕ) (f : Expected) → IsClassOf k f → (rest : List ℕ) (step : ℕ) → IsFaultOf (IsContent f) rest step → IsFaultOf IsValuePart (k ∷ rest) (step + 1)
+after_class k f is rest step fault =
     let begins = fault.4 in
     let content = begins.1 in (
       k ∷ fault.0,
@@ -91,12 +91,12 @@ behind_class k f is rest step fault =
       ap (λ (l : List ℕ). k ∷ l) fault.2,
       omega (arith, fault.3),
       (begins.0, subst IsValuePart (ap (λ (l : List ℕ). k ∷ l) content.2) (is.0 content.0 content.1)),
-      none_behind k f is fault.0 fault.1 fault.5,
+      none_after k f is fault.0 fault.1 fault.5,
     )
 
 -- the same of a fault whose place is told from the beginning of the key
 part_fault : (k : ℕ) (f : Expected) → IsClassOf k f → (rest : List ℕ) (place : ℕ) (fault : KeyFault) → IsPartFault (IsContent f) rest (place + 1) fault → IsPartFault IsValuePart (k ∷ rest) place fault
-part_fault k f is rest place (Bad at) h = (h.0 + 1, omega (arith, h.1), behind_class k f is rest h.0 h.2)
+part_fault k f is rest place (Bad at) h = (h.0 + 1, omega (arith, h.1), after_class k f is rest h.0 h.2)
 part_fault k f is rest place NoMemory h = tt
 
 -- a fault in a text is that of its value, and so is one in a blob
@@ -138,7 +138,7 @@ some_integer m lt =
       | inr high ↦ (pos (m - 2 ^ 63), omega arith, omega arith)
     ]
 
--- the bytes with zeros behind them, up to a width
+-- the bytes with zeros after them, up to a width
 abbrev pub padded : ℕ → List ℕ → List ℕ
 padded width bytes = bytes ++ replicate (width - length bytes) 0
 
@@ -146,7 +146,7 @@ padded width bytes = bytes ++ replicate (width - length bytes) 0
 pub length-padded : (width : ℕ) (bytes : List ℕ) → length bytes ≤ width → length (padded width bytes) ≡ width
 length-padded width bytes short = length-append bytes (replicate (width - length bytes) 0) ∙ (let e : length bytes + length (replicate (width - length bytes) 0) ≡ width = omega (arith, short, length-replicate {A = ℕ} (width - length bytes) 0) in e)
 
--- fewer than eight bytes behind a 2 are no integer
+-- fewer than eight bytes after a 2 are no integer
 no_integer : (rest : List ℕ) → length rest < 8 → NoneGoesOn IsValuePart (2 ∷ rest) []
 no_integer rest short one more part same =
     let found = class_two part.0 more rest (ap (λ (l : List ℕ). l ++ more) part.2 ∙ same) in
@@ -174,7 +174,7 @@ integer_fault rest place are short = (
   ),
 )
 
--- eight bytes that were read behind a 2 are an integer, written as these bytes
+-- eight bytes that were read after a 2 are an integer, written as these bytes
 pub integer_found : (z y : ℤ) (rest bytes left : List ℕ) → z ≡ y → FitsSigned w64 y → IsBytes rest → 8 ≤ length rest → bytes ≡ take 8 rest → left ≡ drop 8 rest → turned y ≡ from_be_bytes w64 bytes
     → IsValue (Int z) × (2 ∷ rest ≡ value_bytes (Int z) ++ left)
 unfolding value_bytes

@@ -18,7 +18,7 @@ use Rattle.hc_key.proofs.Bytes.{bytes_cmp, four_bytes}
 use Rattle.hc_key.proofs.Order.{values_compare, nothing_second}
 use Rattle.hc_key.proofs.Prefix.{TiesAreSame, both_tied}
 use Rattle.hc_key.proofs.Parts.{number_fits_4, padded, length-padded}
-use Rattle.hc_range.proofs.ByteStrings.{IsBytes, IsBytes-padded, IsBytes-take}
+use Rattle.hc_text.proofs.ByteStrings.{IsBytes, IsBytes-padded, IsBytes-take}
 
 -- ---- bytes that begin with the same key
 
@@ -35,36 +35,36 @@ same_value ties v w r s p q e =
     let both = both_tied (value_order v w) (bytes_cmp r s) (sym (values_compare v w r s p q) ∙ tie_from_same (value_bytes v ++ r) (value_bytes w ++ s) e) in
     ((ties v w).0 both.0, same_bytes r s both.1)
 
--- the list goes on behind v with values whose bytes are y
-abbrev Behind : List Value → List Value → List ℕ → Type 0
-Behind w v y = (more : List Value) × (w ≡ v ++ more) × AreValues more × (list_bytes more ≡ y)
+-- the list goes on after v with values whose bytes are y
+abbrev After : List Value → List Value → List ℕ → Type 0
+After w v y = (more : List Value) × (w ≡ v ++ more) × AreValues more × (list_bytes more ≡ y)
 
 -- where the bytes of one list begin with those of another, so does the list
-list_behind : TiesAreSame → (v w : List Value) (y : List ℕ) → AreValues v → AreValues w → list_bytes w ≡ list_bytes v ++ y → Behind w v y
-list_behind ties [] w y p q e = (w, refl, q, e)
-list_behind ties (v ∷ vs) [] y p q e =
+list_after : TiesAreSame → (v w : List Value) (y : List ℕ) → AreValues v → AreValues w → list_bytes w ≡ list_bytes v ++ y → After w v y
+list_after ties [] w y p q e = (w, refl, q, e)
+list_after ties (v ∷ vs) [] y p q e =
     let tie : bytes_cmp (value_bytes v ++ (list_bytes vs ++ y)) [] ≡ Equal = tie_from_same (value_bytes v ++ (list_bytes vs ++ y)) [] (sym (append_assoc (value_bytes v) (list_bytes vs) y) ∙ sym e) in
     absurd (unequal (sym (nothing_second v (list_bytes vs ++ y)) ∙ tie))
   where
     unequal : Greater ≡ Equal → ⊥
     unequal h = cc
-list_behind ties (v ∷ vs) (w ∷ ws) y p q e =
+list_after ties (v ∷ vs) (w ∷ ws) y p q e =
     let both = same_value ties w v (list_bytes ws) (list_bytes vs ++ y) q.0 p.0 (e ∙ append_assoc (value_bytes v) (list_bytes vs) y) in
-    let rest : Behind ws vs y = list_behind ties vs ws y p.1 q.1 both.1 in
+    let rest : After ws vs y = list_after ties vs ws y p.1 q.1 both.1 in
     (rest.0, ap (λ (x : Value). x ∷ ws) both.0 ∙ ap (λ (l : List Value). v ∷ l) rest.1, rest.2, rest.3)
 
 -- the same of the lists of two keys
-key_behind : TiesAreSame → (t u : ℕ) (v w : List Value) (y : List ℕ) → t < 2 ^ 32 → u < 2 ^ 32 → AreValues v → AreValues w → key_bytes u w ≡ key_bytes t v ++ y → Behind w v y
+key_after : TiesAreSame → (t u : ℕ) (v w : List Value) (y : List ℕ) → t < 2 ^ 32 → u < 2 ^ 32 → AreValues v → AreValues w → key_bytes u w ≡ key_bytes t v ++ y → After w v y
 unfolding key_bytes
-key_behind ties t u v w y tf uf p q e =
+key_after ties t u v w y tf uf p q e =
     let both = both_tied (nat_cmp u t) (bytes_cmp (list_bytes w) (list_bytes v ++ y))
     (sym (four_bytes u t uf tf (list_bytes w) (list_bytes v ++ y))
     ∙ tie_from_same (bytes_high_first 4 u ++ list_bytes w) (bytes_high_first 4 t ++ (list_bytes v ++ y)) (e ∙ append_assoc (bytes_high_first 4 t) (list_bytes v) y)) in
-    list_behind ties v w y p q (same_bytes (list_bytes w) (list_bytes v ++ y) both.1)
+    list_after ties v w y p q (same_bytes (list_bytes w) (list_bytes v ++ y) both.1)
 
 -- ---- one value more
 
--- a key with one value more has that value's bytes behind
+-- a key with one value more has that value's bytes after
 key_push : (t : ℕ) (v : List Value) (w : Value) → key_bytes t (v ++ w ∷ []) ≡ key_bytes t v ++ value_bytes w
 unfolding key_bytes
 key_push t v w =
@@ -76,7 +76,7 @@ pub are_more : (v : List Value) (w : Value) → AreValues v → IsValue w → Ar
 are_more [] w are is = (is, tt)
 are_more (x ∷ v) w are is = (are.0, are_more v w are.1 is)
 
--- behind one value more, the key was read that far
+-- after one value more, the key was read that far
 pub read_more : (t : ℕ) (v : List Value) (w : Value) (key left after : List ℕ) → key ≡ key_bytes t v ++ left → left ≡ value_bytes w ++ after → key ≡ key_bytes t (v ++ w ∷ []) ++ after
 read_more t v w key left after all first =
     all ∙ ap (λ (l : List ℕ). key_bytes t v ++ l) first
@@ -88,15 +88,15 @@ all_read t v key [] all none = all ∙ append-nil (key_bytes t v)
 all_read t v key (b ∷ left) all none = absurd (omega (arith, none))
 
 -- a key is as long as what was read and what is left
-pub length-behind : (t : ℕ) (v : List Value) (key left : List ℕ) → key ≡ key_bytes t v ++ left → length key ≡ length (key_bytes t v) + length left
-length-behind t v key left all = ap length all ∙ length-append (key_bytes t v) left
+pub length-after : (t : ℕ) (v : List Value) (key left : List ℕ) → key ≡ key_bytes t v ++ left → length key ≡ length (key_bytes t v) + length left
+length-after t v key left all = ap length all ∙ length-append (key_bytes t v) left
 
 -- ---- the fault of a value in its key
 
 -- where no value goes on as the bytes do, no key that begins with what was read does
 none_in_key : TiesAreSame → (t : ℕ) (v : List Value) (before after : List ℕ) → t < 2 ^ 32 → AreValues v → 0 < length (before ++ after) → NoneGoesOn IsValuePart before after → NoKeyGoesOn (key_bytes t v ++ before) after
 none_in_key ties t v before [] tf are some none = λ key.
-    let found = key_behind ties t key.0 v key.1 before tf key.2 are key.3 key.4 in
+    let found = key_after ties t key.0 v key.1 before tf key.2 are key.3 key.4 in
     by_list before some none found.0 found.2 found.3
   where
     by_list : (before : List ℕ) → 0 < length (before ++ []) → NoneGoesOn IsValuePart before [] → (more : List Value) → AreValues more → list_bytes more ≡ before → ⊥
@@ -104,7 +104,7 @@ none_in_key ties t v before [] tf are some none = λ key.
     by_list before some none (w ∷ ws) are e = none (value_bytes w) (list_bytes ws) (w, are.0, refl) e
 none_in_key ties t v before (b ∷ after) tf are some none = λ begins.
     let key = begins.1 in
-    let found = key_behind ties t key.0 v key.1 (before ++ b ∷ begins.0) tf key.2 are key.3
+    let found = key_after ties t key.0 v key.1 (before ++ b ∷ begins.0) tf key.2 are key.3
     (key.4 ∙ append_assoc (key_bytes t v ++ before) (b ∷ []) begins.0 ∙ append_assoc (key_bytes t v) before (b ∷ begins.0)) in
     by_list before b after begins.0 none found.0 found.2 found.3
   where
@@ -112,7 +112,7 @@ none_in_key ties t v before (b ∷ after) tf are some none = λ begins.
     by_list before b after rest none [] are e = omega (arith, ap length e, length-append before (b ∷ rest))
     by_list before b after rest none (w ∷ ws) are e = none (value_bytes w) (list_bytes ws) rest (w, are.0, refl) e
 
--- a fault in the next value is one of the key, behind what was read
+-- a fault in the next value is one of the key, after what was read
 value_fault : TiesAreSame → (t : ℕ) (v : List Value) (key left : List ℕ) (step : ℕ) → t < 2 ^ 32 → AreValues v → key ≡ key_bytes t v ++ left → 0 < length left → IsFaultOf IsValuePart left step → IsFaultAt key (length (key_bytes t v) + step)
 value_fault ties t v key left step tf are all some fault =
     let begins = fault.4 in

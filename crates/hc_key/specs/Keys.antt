@@ -11,7 +11,7 @@ abbrev pub turned : ℤ → ℕ
 turned (pos n) = 2 ^ 63 + n
 turned (negsuc n) = 2 ^ 63 - 1 - n
 
--- a byte of a text or a blob: behind a 0 stands FF
+-- a byte of a text or a blob: FF follows a 0
 abbrev pub escape : ℕ → List ℕ
 escape zero = 0 ∷ 255 ∷ []
 escape (suc b) = suc b ∷ []
@@ -33,6 +33,6 @@ value_bytes (Blob bytes) = 4 ∷ ended bytes
 abbrev pub list_bytes : List Value → List ℕ
 list_bytes values = flat_map value_bytes values
 
--- a key: the tree's number in four bytes, big-endian, and the values one behind another
+-- a key: the tree's number in four bytes, big-endian, and the values one after another
 unfoldable pub key_bytes : ℕ → List Value → List ℕ
 key_bytes tree values = bytes_high_first 4 tree ++ list_bytes values

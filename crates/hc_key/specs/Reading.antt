@@ -1,12 +1,12 @@
--- Where bytes are no key: behind the bytes before the fault some key goes on, but none as these bytes do.
-use Rattle.std.specs.Prelude.{◌≡◌, ℕ, zero, suc, ◌+◌, ◌^◌, ◌<◌, ◌≤◌, List, [], ◌∷◌, ◌++◌, length}
+-- Where bytes are no key: after the bytes before the fault some key goes on, but none as these bytes do.
+use Rattle.std.specs.Prelude.{◌≡◌, ℕ, ◌+◌, ◌^◌, ◌<◌, List, [], ◌∷◌, ◌++◌, length}
 use Rattle.hc_value.specs.declared.value.Value.{Value}
 use Rattle.hc_value.specs.Values.{IsValue, AreValues}
 use Rattle.hc_key.specs.Keys.{ended, value_bytes, key_bytes}
 use Rattle.hc_key.specs.declared.fault.KeyFault.{KeyFault}
 use Rattle.hc_key.specs.declared.fault.KeyFault.TheVariants.{Bad, NoMemory}
-use Rattle.hc_value.specs.declared.expected.Expected.{Expected}
-use Rattle.hc_value.specs.Expected.{Completes}
+use Rattle.hc_text.specs.declared.utf8.Expected.{Expected}
+use Rattle.hc_text.specs.Utf8.{Completes}
 
 -- the bytes are the key of a tree number of 32 bits and a list of values
 abbrev pub IsKey : List ℕ → Type 0
@@ -16,13 +16,13 @@ IsKey bytes = (tree : ℕ) × (list : List Value) × (tree < 2 ^ 32) × AreValue
 abbrev pub BeginsKey : List ℕ → Type 0
 BeginsKey bytes = (rest : List ℕ) × IsKey (bytes ++ rest)
 
--- Behind the bytes before, no key goes on as here: where more bytes follow, none goes on with the first
+-- After the bytes before, no key goes on as here: where more bytes follow, none goes on with the first
 -- of them, and where there are none, the bytes are no key.
 abbrev pub NoKeyGoesOn : List ℕ → List ℕ → Type 0
 NoKeyGoesOn before [] = IsKey before → ⊥
 NoKeyGoesOn before (byte ∷ after) = BeginsKey (before ++ byte ∷ []) → ⊥
 
--- the bytes are no key, by the byte that stands at this place, or by their end
+-- the bytes are no key, by the byte that is at this place, or by their end
 abbrev pub IsFaultAt : List ℕ → ℕ → Type 0
 IsFaultAt bytes at =
     (before : List ℕ) × (after : List ℕ) × (bytes ≡ before ++ after) × (length before ≡ at) × BeginsKey before × NoKeyGoesOn before after
@@ -37,7 +37,7 @@ IsKeyFault bytes NoMemory = Unit {0}
 abbrev pub BeginsOne : (List ℕ → Type 0) → List ℕ → Type 0
 BeginsOne Is bytes = (rest : List ℕ) × Is (bytes ++ rest)
 
--- behind the bytes before, none of the set goes on as here, and none has ended
+-- after the bytes before, none of the set goes on as here, and none has ended
 abbrev pub NoneGoesOn : (List ℕ → Type 0) → List ℕ → List ℕ → Type 0
 NoneGoesOn Is before [] = (one more : List ℕ) → Is one → one ++ more ≡ before → ⊥
 NoneGoesOn Is before (byte ∷ after) = (one more rest : List ℕ) → Is one → one ++ more ≡ before ++ byte ∷ rest → ⊥

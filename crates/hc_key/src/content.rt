@@ -2,10 +2,10 @@
 ghost use Rattle.std.specs.Prelude.{◌≡◌, ◌+◌, ◌-◌, ◌^◌, ◌<◌, ◌≤◌, List, ℕ, ◌∷◌, ◌++◌, length, IfOk, IfErr, IfSome, IfNone};
 ghost use Rattle.hc_key.specs.Keys.{escape, ended};
 ghost use Rattle.hc_key.specs.Reading.{IsContent, IsPartFault};
-ghost use Rattle.hc_value.specs.Expected.{Completes, IsOpen};
+ghost use Rattle.hc_text.specs.Utf8.{Completes, IsOpen};
 
 use crate::KeyFault;
-use hc_value::{Expected, next_expected};
+use hc_text::{Expected, next_expected};
 use std::alloc::Global;
 
 /// The bytes up to the end of the text or the blob, and what follows. They begin at a place of the key.
@@ -24,24 +24,24 @@ pub fn content<'a>(
     let mut rest = bytes;
     let mut expected = first;
     while let Some((byte, after)) = rest.split_first() {
-        let Some(behind) = next_expected(expected, *byte) else {
+        let Some(next) = next_expected(expected, *byte) else {
             return Err(bad_at(place, bytes, rest));
         };
-        let Some(left) = behind_escape(*byte, after) else {
-            let Some(left) = behind_end(after) else {
+        let Some(left) = after_escape(*byte, after) else {
+            let Some(left) = after_end(after) else {
                 return Err(bad_at(place, bytes, after));
             };
             return Ok((out, left));
         };
         out.push(*byte)?;
         rest = left;
-        expected = behind;
+        expected = next;
     }
     Err(bad_at(place, bytes, rest))
 }
 
 // What follows a byte with its escape; nothing where a zero has none.
-fn behind_escape(byte: u8, after: &[u8]) -> Option<&[u8]>
+fn after_escape(byte: u8, after: &[u8]) -> Option<&[u8]>
     ensures some { IfSome result (λ left. byte ∷ after.now ≡ escape byte ++ left.now) }
     ensures none { IfNone result ((byte ≡ 0) × ((left : List ℕ) → after.now ≡ 255 ∷ left → ⊥)) }
 {
@@ -55,14 +55,14 @@ fn behind_escape(byte: u8, after: &[u8]) -> Option<&[u8]>
 }
 
 // What follows the second zero of an end.
-fn behind_end(after: &[u8]) -> Option<&[u8]>
+fn after_end(after: &[u8]) -> Option<&[u8]>
     ensures some { IfSome result (λ left. after.now ≡ 0 ∷ left.now) }
     ensures none { IfNone result ((left : List ℕ) → after.now ≡ 0 ∷ left → ⊥) }
 {
-    match after {
-        [0, left @ ..] => Some(left),
-        _ => None,
-    }
+    let [0, left @ ..] = after else {
+        return None;
+    };
+    Some(left)
 }
 
 // A fault where the rest of the bytes begins.

@@ -2,14 +2,17 @@ ghost use Rattle.std.specs.Prelude.{◌≡◌};
 ghost use Rattle.hc_key.specs.declared.fault.KeyFault.TheVariants.{NoMemory};
 
 use std::alloc::{AllocError, AllocFailed};
+use thiserror::Error;
 
 /// Why no tree number and list of values was read.
-#[derive(Debug, PartialEq, Eq, Drop)]
+#[derive(Clone, Copy, Debug, PartialEq, Eq, Error)]
 pub enum KeyFault {
-    /// The bytes are no key. `at` is how many bytes stand before the fault: the first byte with which no
-    /// key goes on, or the end, where the bytes are only the beginning of a key.
+    /// The bytes are no key. `at` is how many bytes come before the fault: the first byte with which no
+    /// key continues, or the end, where the bytes are only the beginning of a key.
+    #[error("no key: no key continues so (byte {at})")]
     Bad { at: u32 },
     /// An allocation was refused.
+    #[error("memory ran out")]
     NoMemory,
 }
 
@@ -25,6 +28,6 @@ impl<T: Drop> From<AllocFailed<T>> for KeyFault {
     ghost from_gives = { λ _ e. e ≡ NoMemory };
 
     fn from(_: AllocFailed<T>) -> KeyFault {
-        KeyFault::NoMemory
+        KeyFault::from(AllocError)
     }
 }

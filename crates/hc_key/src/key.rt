@@ -5,7 +5,8 @@ ghost use Rattle.hc_key.specs.Laws.{range_of, HoldsPrefixed};
 
 use crate::value::{are_values, push_value};
 use hc_range::{Bytes, Range};
-use hc_value::{NoMemory, Value, values_are_equal_in_order_exactly_when_they_are_the_same};
+use hc_value::laws::values_are_equal_in_order_exactly_when_they_are_the_same;
+use hc_value::{NoMemory, Value};
 use std::alloc::Global;
 
 /// The key of a tree's number and a list of values.

@@ -1,7 +1,7 @@
 // What holds of all keys. Each law is the contract of a function that does nothing.
 ghost use Rattle.hc_key.specs.Laws.{ByteOrderIsValueOrder, KeysDiffer};
 
-use hc_value::values_are_equal_in_order_exactly_when_they_are_the_same;
+use hc_value::laws::values_are_equal_in_order_exactly_when_they_are_the_same;
 
 /// The bytes of two keys compare as the tree numbers do and, where these are equal, as the lists of
 /// values: by the first values that differ, a proper prefix first.

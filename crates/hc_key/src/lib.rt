@@ -7,21 +7,18 @@
 //!
 //! Two keys compare as their numbers do and, where these are equal, as their lists do in the order of SQL;
 //! keys of different trees or lists are different. `specs/Keys.antt` says which bytes a key has, and
-//! `specs/Laws.antt` what holds of all keys. Each call is given the allocator first and may answer want of
-//! memory.
+//! `specs/Laws.antt` what holds of all keys. Each call is given the allocator first and may answer
+//! `NoMemory`.
 #![tactic(auto)]
 
 mod content;
 mod fault;
 mod key;
-mod laws;
+pub mod laws;
 mod reader;
 mod reading;
-#[cfg(test)]
-mod tests;
 mod value;
 
 pub use fault::KeyFault;
 pub use key::{key_of, prefix_range};
-pub use laws::{byte_order_is_value_order, keys_of_different_lists_differ};
 pub use reading::values_of;

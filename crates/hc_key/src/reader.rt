@@ -1,4 +1,4 @@
-// Values in a key. A place is how many bytes of the key stand before.
+// Values in a key. A place is how many bytes of the key come before.
 ghost use Rattle.std.specs.Prelude.{◌≡◌, ◌+◌, ◌^◌, ◌<◌, ◌∷◌, ◌++◌, length, IfOk, IfErr};
 ghost use Rattle.hc_value.specs.Values.{IsValue};
 ghost use Rattle.hc_key.specs.Keys.{turned, value_bytes};
@@ -6,11 +6,12 @@ ghost use Rattle.hc_key.specs.Reading.{IsValuePart, IsPartFault};
 
 use crate::KeyFault;
 use crate::content::content;
-use hc_value::{Blob, Expected, Str, Value};
+use hc_text::Expected;
+use hc_value::{Blob, Str, Value};
 use std::alloc::Global;
 
-/// A value behind the first byte of it, which tells its class and stands at the place; and what follows it.
-pub fn value_behind(
+/// A value after the first byte of it, which tells its class and is at the place; and what follows it.
+pub fn value_after(
     alloc: Global,
     class: u8,
     rest: &[u8],
@@ -22,15 +23,15 @@ pub fn value_behind(
 {
     match class {
         1 => Ok((Value::Null, rest)),
-        2 => integer_behind(rest, place),
-        3 => text_behind(alloc, rest, place),
-        4 => blob_behind(alloc, rest, place),
+        2 => integer_after(rest, place),
+        3 => text_after(alloc, rest, place),
+        4 => blob_after(alloc, rest, place),
         _ => Err(KeyFault::Bad { at: place }),
     }
 }
 
-// An integer behind its class, which stands at the place.
-fn integer_behind(rest: &[u8], place: u32) -> Result<(Value, &[u8]), KeyFault>
+// An integer after its class, which is at the place.
+fn integer_after(rest: &[u8], place: u32) -> Result<(Value, &[u8]), KeyFault>
     requires fits { place + 1 + length rest.now < 2 ^ 32 }
     ensures found { IfOk result (λ found. IsValue found.0 × (2 ∷ rest.now ≡ value_bytes found.0 ++ found.1.now)) }
     ensures fault { IfErr result (IsPartFault IsValuePart (2 ∷ rest.now) place) }
@@ -50,8 +51,8 @@ fn unturned(bits: u64) -> i64
     (bits ^ (1 << 63)).cast_signed()
 }
 
-// A text behind its class, which stands at the place.
-fn text_behind(alloc: Global, rest: &[u8], place: u32) -> Result<(Value, &[u8]), KeyFault>
+// A text after its class, which is at the place.
+fn text_after(alloc: Global, rest: &[u8], place: u32) -> Result<(Value, &[u8]), KeyFault>
     requires fits { place + 1 + length rest.now < 2 ^ 32 }
     ensures found { IfOk result (λ found. IsValue found.0 × (3 ∷ rest.now ≡ value_bytes found.0 ++ found.1.now)) }
     ensures fault { IfErr result (IsPartFault IsValuePart (3 ∷ rest.now) place) }
@@ -62,8 +63,8 @@ fn text_behind(alloc: Global, rest: &[u8], place: u32) -> Result<(Value, &[u8]),
     Ok((Value::Text(Str::from_string(text)), left))
 }
 
-// A blob behind its class, which stands at the place.
-fn blob_behind(alloc: Global, rest: &[u8], place: u32) -> Result<(Value, &[u8]), KeyFault>
+// A blob after its class, which is at the place.
+fn blob_after(alloc: Global, rest: &[u8], place: u32) -> Result<(Value, &[u8]), KeyFault>
     requires fits { place + 1 + length rest.now < 2 ^ 32 }
     ensures found { IfOk result (λ found. IsValue found.0 × (4 ∷ rest.now ≡ value_bytes found.0 ++ found.1.now)) }
     ensures fault { IfErr result (IsPartFault IsValuePart (4 ∷ rest.now) place) }

@@ -1,4 +1,4 @@
-// A key is read: the tree's number, and the values one behind another.
+// A key is read: the tree's number, and the values one after another.
 ghost use Rattle.std.specs.Prelude.{◌≡◌, ℕ, ◌^◌, ◌<◌, List, [], ◌++◌, length, IfOk, IfErr};
 ghost use Rattle.hc_value.specs.declared.value.Value.{Value as Column};
 ghost use Rattle.hc_value.specs.Values.{AreValues};
@@ -6,8 +6,9 @@ ghost use Rattle.hc_key.specs.Keys.{key_bytes};
 ghost use Rattle.hc_key.specs.Reading.{IsKeyFault};
 
 use crate::KeyFault;
-use crate::reader::value_behind;
-use hc_value::{Value, values_are_equal_in_order_exactly_when_they_are_the_same};
+use crate::reader::value_after;
+use hc_value::Value;
+use hc_value::laws::values_are_equal_in_order_exactly_when_they_are_the_same;
 use sqlite_items::Items;
 use std::alloc::Global;
 
@@ -28,28 +29,23 @@ pub fn values_of(alloc: Global, key: &[u8]) -> Result<(u32, Items<Value>), KeyFa
         });
     };
     let tree = u32::from_be_bytes(*bytes);
-    let values = values_behind(alloc, key, tree, rest)?;
+    let values = values_after(alloc, key, tree, rest)?;
     Ok((tree, values))
 }
 
-// The values behind the number of the tree.
-fn values_behind(
-    alloc: Global,
-    key: &[u8],
-    tree: u32,
-    rest: &[u8],
-) -> Result<Items<Value>, KeyFault>
+// The values after the number of the tree.
+fn values_after(alloc: Global, key: &[u8], tree: u32, rest: &[u8]) -> Result<Items<Value>, KeyFault>
     requires fits { length key.now < 2 ^ 32 }
-    requires behind { key.now ≡ key_bytes tree [] ++ rest.now }
+    requires front { key.now ≡ key_bytes tree [] ++ rest.now }
     ensures found { IfOk result (λ values. AreValues values × (key.now ≡ key_bytes tree values)) }
     ensures fault { IfErr result (IsKeyFault key.now) }
 {
     values_are_equal_in_order_exactly_when_they_are_the_same();
     let mut values = Items::new(alloc);
     let mut left = rest;
-    while let Some((class, behind)) = left.split_first() {
+    while let Some((class, tail)) = left.split_first() {
         let place = (key.len() - left.len()) as u32;
-        let (value, after) = value_behind(alloc, *class, behind, place)?;
+        let (value, after) = value_after(alloc, *class, tail, place)?;
         values.push(value)?;
         left = after;
     }

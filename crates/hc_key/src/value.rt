@@ -4,9 +4,10 @@ ghost use Rattle.std.specs.Int.{bytes_high_first};
 ghost use Rattle.hc_value.specs.Values.{AreValues};
 ghost use Rattle.hc_key.specs.Keys.{turned, escape, escaped, ended, value_bytes};
 
-use hc_value::{NoMemory, Value, a_value_is_one};
+use hc_value::laws::a_value_is_one;
+use hc_value::{NoMemory, Value};
 
-/// Writes a value behind what is there.
+/// Writes a value after what is there.
 #[tactic(auto, unfolding(crate::specs::Keys::value_bytes))]
 pub fn push_value(out: &mut Vec<u8>, v: &Value) -> Result<(), NoMemory>
     ensures { OnOk result (out.new.items ≡ out.old.items ++ value_bytes v.now) }

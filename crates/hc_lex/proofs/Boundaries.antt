@@ -20,13 +20,14 @@ use Rattle.hc_lex.specs.Characters.{Begins, GoesOn, class_of, goes_on_with_name}
 use Rattle.hc_lex.specs.Laws.{StatementsLieAtCharacters, TokensLieAtCharacters}
 use Rattle.hc_lex.specs.Pieces.{Piece, Front}
 use Rattle.hc_lex.specs.Places.{SpansAtCharacters, TokensAtCharacters}
-use Rattle.hc_lex.specs.Quotes.{IsQuoted, doubled}
+use Rattle.hc_text.specs.Quotes.{doubled}
+use Rattle.hc_lex.specs.Quotes.{IsQuoted}
 use Rattle.hc_lex.specs.Reading.{IsTokenOrBlank, token_if, tokens_of}
 use Rattle.hc_lex.specs.Statements.{IsPart, groups_of, last_of, parts_of, span_of}
 use Rattle.hc_lex.specs.Tokens.{IsToken}
 use Rattle.hc_lex.proofs.Classes.{past_ascii_is_letter}
 use Rattle.hc_lex.proofs.Lengths.{part_length}
-use Rattle.hc_lex.proofs.SpansSoFar.{filter_map-continued, last_behind, range, spans_from, spans_from-blank, spans_from-end, spans_from-nothing, spans_from-own}
+use Rattle.hc_lex.proofs.SpansSoFar.{filter_map-continued, last_after, range, spans_from, spans_from-blank, spans_from-end, spans_from-nothing, spans_from-own}
 
 -- a character past ASCII, or a part of one, stands in front
 abbrev pub BeginsPastAscii : List ℕ → Type 0
@@ -36,9 +37,9 @@ BeginsPastAscii bytes = Begins (λ b. 128 ≤ b) bytes
 abbrev pub EndsInAscii : List ℕ → Type 0
 EndsInAscii text = (front : List ℕ) × (b : ℕ) × (b < 128) × (text ≡ front ++ b ∷ [])
 
--- a character ends with the text, where `behind` stands behind it
+-- a character ends with the text, where `tail` follows it
 abbrev pub EndsCleanly : List ℕ → List ℕ → Type 0
-EndsCleanly text behind = (¬ BeginsPastAscii behind) ⊎ EndsInAscii text
+EndsCleanly text tail = (¬ BeginsPastAscii tail) ⊎ EndsInAscii text
 
 below_ascii : (b : ℕ) → (128 ≤ b → ⊥) → b < 128
 below_ascii b h = omega arith
@@ -131,15 +132,15 @@ boundary_before text front (b ∷ bytes) e clean =
     (omega arith, λ within past. absurd (clean (subst (λ x. 128 ≤ x) here past)))
 
 -- a character ends where a piece ends cleanly
-boundary_behind : (text front piece behind : List ℕ) → IsUtf8 text → text ≡ front ++ (piece ++ behind) → EndsCleanly piece behind → IsCharBoundary text (length front + length piece)
-boundary_behind text front piece behind utf8 e (inl clean) =
-    subst (λ k. IsCharBoundary text k) (length-append front piece) (boundary_before text (front ++ piece) behind (e ∙ sym (append_assoc front piece behind)) clean)
-boundary_behind text front piece behind utf8 e (inr (more, b, small, last)) =
-    let same : text ≡ (front ++ more) ++ b ∷ behind =
-    e ∙ ap (λ p. front ++ (p ++ behind)) last ∙ ap (λ r. front ++ r) (append_assoc more (b ∷ []) behind) ∙ sym (append_assoc front more (b ∷ behind)) in
-    let whole : length text ≡ length (front ++ more) + length (b ∷ behind) = ap length same ∙ length-append (front ++ more) (b ∷ behind) in
+boundary_after : (text front piece tail : List ℕ) → IsUtf8 text → text ≡ front ++ (piece ++ tail) → EndsCleanly piece tail → IsCharBoundary text (length front + length piece)
+boundary_after text front piece tail utf8 e (inl clean) =
+    subst (λ k. IsCharBoundary text k) (length-append front piece) (boundary_before text (front ++ piece) tail (e ∙ sym (append_assoc front piece tail)) clean)
+boundary_after text front piece tail utf8 e (inr (more, b, small, last)) =
+    let same : text ≡ (front ++ more) ++ b ∷ tail =
+    e ∙ ap (λ p. front ++ (p ++ tail)) last ∙ ap (λ r. front ++ r) (append_assoc more (b ∷ []) tail) ∙ sym (append_assoc front more (b ∷ tail)) in
+    let whole : length text ≡ length (front ++ more) + length (b ∷ tail) = ap length same ∙ length-append (front ++ more) (b ∷ tail) in
     let within : length (front ++ more) < length text = omega arith in
-    let here : get_or text (length (front ++ more)) 0 ≡ b = ap (λ t. get_or t (length (front ++ more)) 0) same ∙ get_or-append_seam (front ++ more) b behind 0 in
+    let here : get_or text (length (front ++ more)) 0 ≡ b = ap (λ t. get_or t (length (front ++ more)) 0) same ∙ get_or-append_seam (front ++ more) b tail 0 in
     let place : length (front ++ more) + 1 ≡ length front + length piece = omega (arith, length-append front more, ap length last, length-append more (b ∷ [])) in
     subst (λ k. IsCharBoundary text k) place (IsCharBoundary-after_ascii text (length (front ++ more)) utf8 within (subst (λ x. x < 128) (sym here) small))
 
@@ -153,7 +154,7 @@ tokens_at : (text front : List ℕ) (ps : List (Piece (Option TokenKind))) (byte
 tokens_at text front [] bytes utf8 e here is = tt
 tokens_at text front (p ∷ ps) bytes utf8 e here is =
     let whole : text ≡ front ++ (p.text ++ is.0) = e ∙ ap (λ r. front ++ r) is.1 in
-    let next : IsCharBoundary text (length front + length p.text) = boundary_behind text front p.text is.0 utf8 whole (lexeme_ends p.kind p.text is.0 is.2) in
+    let next : IsCharBoundary text (length front + length p.text) = boundary_after text front p.text is.0 utf8 whole (lexeme_ends p.kind p.text is.0 is.2) in
     let later : TokensAtCharacters text (tokens_of (length (front ++ p.text)) ps) =
     tokens_at text (front ++ p.text) ps is.0 utf8 (whole ∙ sym (append_assoc front p.text is.0)) (subst (λ k. IsCharBoundary text k) (sym (length-append front p.text)) next) is.3 in
     with_token text p.kind (length front) (length front + length p.text) (tokens_of (length front + length p.text) ps) here next
@@ -182,18 +183,18 @@ abbrev pub Stands : List ℕ → List ℕ → ℕ → Type 0
 Stands text [] at = IsCharBoundary text at
 Stands text (place ∷ places) at = GoesOnFrom text place places at
 
--- what is known at a place stays known behind a blank
-blank_status : (text places : List ℕ) (at behind : ℕ) → IsCharBoundary text at → IsCharBoundary text behind → Stands text places at → Stands text places behind
-blank_status text [] at behind here next is = next
-blank_status text (place ∷ places) at behind here next is = record { first = is.first; last = inr (ends_at text place places at is here) }
+-- what is known at a place stays known after a blank
+blank_status : (text places : List ℕ) (at tail : ℕ) → IsCharBoundary text at → IsCharBoundary text tail → Stands text places at → Stands text places tail
+blank_status text [] at tail here next is = next
+blank_status text (place ∷ places) at tail here next is = record { first = is.first; last = inr (ends_at text place places at is here) }
 
--- behind bytes of a statement, a statement goes on there
+-- after bytes of a statement, a statement goes on there
 own_status : (text places : List ℕ) (n at : ℕ) → 0 < n → Stands text places at → Stands text (places ++ range at n) (at + n)
 own_status text places zero at some is = absurd (omega arith)
-own_status text [] (suc n) at some is = record { first = is; last = inl (last_behind 0 [] at n) }
-own_status text (place ∷ places) (suc n) at some is = record { first = is.first; last = inl (last_behind place places at n) }
+own_status text [] (suc n) at some is = record { first = is; last = inl (last_after 0 [] at n) }
+own_status text (place ∷ places) (suc n) at some is = record { first = is.first; last = inl (last_after place places at n) }
 
--- where a statement ends, or none stands, its span lies at characters with those behind it
+-- where a statement ends, or none stands, its span lies at characters with those after it
 ended : (text places : List ℕ) (at : ℕ) (spans : List Span) → IsCharBoundary text at → Stands text places at → SpansAtCharacters text spans → SpansAtCharacters text (option_to_list (span_of places) ++ spans)
 ended text [] at spans here is later = later
 ended text (place ∷ places) at spans here is later = with_span text place places spans is.first (ends_at text place places at is here) later
@@ -202,23 +203,23 @@ ended text (place ∷ places) at spans here is later = with_span text place plac
 abbrev Later : List ℕ → List ℕ → List Part → Type 0
 Later text front more = (places : List ℕ) → Stands text places (length front) → SpansAtCharacters text (spans_from (length front) places more)
 
--- the spans from a piece on lie at characters where those behind it do
-step : (text front : List ℕ) (k : Part) (t behind places : List ℕ) (more : List Part) → IsUtf8 text → text ≡ front ++ (t ++ behind) → IsPart k t behind → Stands text places (length front) → Later text (front ++ t) more
+-- the spans from a piece on lie at characters where those after it do
+step : (text front : List ℕ) (k : Part) (t tail places : List ℕ) (more : List Part) → IsUtf8 text → text ≡ front ++ (t ++ tail) → IsPart k t tail → Stands text places (length front) → Later text (front ++ t) more
     → SpansAtCharacters text (spans_from (length front) places (replicate (length t) k ++ more))
-step text front Blank t behind places more utf8 e is here later =
-    let before : IsCharBoundary text (length front) = boundary_before text front (t ++ behind) e (blank_begins t behind is) in
-    let next : IsCharBoundary text (length (front ++ t)) = subst (λ k. IsCharBoundary text k) (sym (length-append front t)) (boundary_behind text front t behind utf8 e (blank_ends t behind is)) in
+step text front Blank t tail places more utf8 e is here later =
+    let before : IsCharBoundary text (length front) = boundary_before text front (t ++ tail) e (blank_begins t tail is) in
+    let next : IsCharBoundary text (length (front ++ t)) = subst (λ k. IsCharBoundary text k) (sym (length-append front t)) (boundary_after text front t tail utf8 e (blank_ends t tail is)) in
     subst (λ spans. SpansAtCharacters text spans) (ap (λ k. spans_from k places more) (length-append front t) ∙ sym (spans_from-blank (length t) (length front) places more))
     (later places (blank_status text places (length front) (length (front ++ t)) before next here))
-step text front Statement t behind places more utf8 e is here later =
+step text front Statement t tail places more utf8 e is here later =
     let place : length front + length t ≡ length (front ++ t) = sym (length-append front t) in
     subst (λ spans. SpansAtCharacters text spans)
     (ap (λ k. spans_from k (places ++ range (length front) (length t)) more) (length-append front t) ∙ sym (spans_from-own (length t) (length front) places more))
     (later (places ++ range (length front) (length t))
-    (subst (λ k. Stands text (places ++ range (length front) (length t)) k) place (own_status text places (length t) (length front) (part_length Statement t behind is) here)))
-step text front Separator t behind places more utf8 e is here later =
-    let before : IsCharBoundary text (length front) = boundary_before text front (t ++ behind) e (headed 59 (t ++ behind) behind (ap (λ x. x ++ behind) is) (omega arith)) in
-    let next : IsCharBoundary text (length (front ++ t)) = subst (λ k. IsCharBoundary text k) (sym (length-append front t)) (boundary_behind text front t behind utf8 e (one_sign 59 t behind (omega arith) is)) in
+    (subst (λ k. Stands text (places ++ range (length front) (length t)) k) place (own_status text places (length t) (length front) (part_length Statement t tail is) here)))
+step text front Separator t tail places more utf8 e is here later =
+    let before : IsCharBoundary text (length front) = boundary_before text front (t ++ tail) e (headed 59 (t ++ tail) tail (ap (λ x. x ++ tail) is) (omega arith)) in
+    let next : IsCharBoundary text (length (front ++ t)) = subst (λ k. IsCharBoundary text k) (sym (length-append front t)) (boundary_after text front t tail utf8 e (one_sign 59 t tail (omega arith) is)) in
     let one : length t ≡ 1 = ap length is in
     let place : length (front ++ t) ≡ length front + 1 = omega (arith, length-append front t) in
     subst (λ spans. SpansAtCharacters text spans)

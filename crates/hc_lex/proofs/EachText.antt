@@ -41,7 +41,7 @@ end_once : (k : Run) (b : ℕ) (after bytes : List ℕ) (t : Bool) → is_in k b
 end_once k b after bytes true e ends = ends
 end_once k b after bytes false e ends = λ goes. false≢true (sym e ∙ goes)
 
--- what stands behind the run does not go on with it
+-- what follows the run does not go on with it
 run_ends : (k : Run) (bytes : List ℕ) → ¬ GoesOn k (after_run k bytes)
 run_ends k [] = λ goes. goes
 run_ends k (b ∷ bytes) = end_once k b (after_run k bytes) bytes (is_in k b) refl (run_ends k bytes)
@@ -56,7 +56,7 @@ begins_tells b [] = inr (λ h. h)
 begins_tells b (first ∷ bytes) = elim (eqb_tells first b) [ inl is ↦ inl (bytes, ap (λ x. x ∷ bytes) is.1) | inr isnt ↦ inr (λ e. isnt.1 e) ]
 
 -- a literal ends or not
-literal_ends : (quote : ℕ) (bytes rest : List ℕ) → QuotedSoFar quote bytes rest → ((behind : List ℕ) × Skips (IsQuoted quote) (quote ∷ bytes) behind) ⊎ IsOpenQuoted quote (quote ∷ bytes)
+literal_ends : (quote : ℕ) (bytes rest : List ℕ) → QuotedSoFar quote bytes rest → ((tail : List ℕ) × Skips (IsQuoted quote) (quote ∷ bytes) tail) ⊎ IsOpenQuoted quote (quote ∷ bytes)
 literal_ends quote bytes [] s = inr (never_quoted quote bytes [] s refl)
 literal_ends quote bytes (b ∷ []) s = elim (eqb_tells b quote) [
   | inl is ↦ inl ([], quoted_here quote bytes (b ∷ []) [] s (ap (λ x. x ∷ []) is.1) (λ h. h))
@@ -73,12 +73,12 @@ literal_ends quote bytes (b ∷ c ∷ more) s = elim (eqb_tells b quote) [
 -- a block comment ends
 comment_ends : (bytes rest : List ℕ) → NoCloseSoFar bytes rest → (after : List ℕ) × Skips IsBlank (47 ∷ 42 ∷ bytes) after
 comment_ends bytes [] s = ([], never_closed bytes [] s refl)
-comment_ends bytes (b ∷ behind) s = elim (eqb_tells b 42) [
-  | inl is ↦ elim (begins_tells 47 behind) [
-    | inl closes ↦ (closes.0, closed_here bytes (b ∷ behind) behind closes.0 s (ap (λ x. x ∷ behind) is.1) closes.1)
-    | inr no_slash ↦ comment_ends bytes behind (no_close_more bytes (b ∷ behind) b behind s refl (λ p. no_slash p.1))
+comment_ends bytes (b ∷ tail) s = elim (eqb_tells b 42) [
+  | inl is ↦ elim (begins_tells 47 tail) [
+    | inl closes ↦ (closes.0, closed_here bytes (b ∷ tail) tail closes.0 s (ap (λ x. x ∷ tail) is.1) closes.1)
+    | inr no_slash ↦ comment_ends bytes tail (no_close_more bytes (b ∷ tail) b tail s refl (λ p. no_slash p.1))
   ]
-  | inr isnt ↦ comment_ends bytes behind (no_close_more bytes (b ∷ behind) b behind s refl (λ p. isnt.1 p.0))
+  | inr isnt ↦ comment_ends bytes tail (no_close_more bytes (b ∷ tail) b tail s refl (λ p. isnt.1 p.0))
 ]
 
 -- a lexeme begins here, or a fault stands here
@@ -125,7 +125,7 @@ first_word b bytes is no_blob =
       subst (λ bs. ¬ BeginsBlob bs) run_is.0 no_blob,
     )
 
--- a mark with a quote behind it begins a lexeme or a fault
+-- a mark with a quote after it begins a lexeme or a fault
 blob_or_bad : (b : ℕ) (bytes digits : List ℕ) → IsBlobMark b → bytes ≡ 39 ∷ digits → HasFirst (b ∷ bytes)
 blob_or_bad b bytes digits mark e =
     let run_is : BeginsRun run.Blob digits (run_of run.Blob digits) (after_run run.Blob digits) = begins_run run.Blob digits in
@@ -142,18 +142,18 @@ blob_or_bad b bytes digits mark e =
       | inr odd ↦ inr (BadBlob, 0, bad_blob (b ∷ bytes) b bytes digits refl mark e (odd_is_no_blob digits (run_of run.Blob digits) (after_run run.Blob digits) run_is odd.1))
     ]
 
--- what begins a blob is a mark with a quote behind it
-quote_behind : (b : ℕ) (bytes : List ℕ) → BeginsBlob (b ∷ bytes) → BeginsWith 39 bytes
-quote_behind b bytes (mark, behind, is, e) = let same : bytes ≡ 39 ∷ behind = cc in subst (λ bs. BeginsWith 39 bs) (sym same) refl
+-- what begins a blob is a mark with a quote after it
+quote_next : (b : ℕ) (bytes : List ℕ) → BeginsBlob (b ∷ bytes) → BeginsWith 39 bytes
+quote_next b bytes (mark, tail, is, e) = let same : bytes ≡ 39 ∷ tail = cc in subst (λ bs. BeginsWith 39 bs) (sym same) refl
 
 mark_of : (b : ℕ) (bytes : List ℕ) → BeginsBlob (b ∷ bytes) → IsBlobMark b
-mark_of b bytes (mark, behind, is, e) = let same : b ≡ mark = cc in subst (λ x. IsBlobMark x) (sym same) is
+mark_of b bytes (mark, tail, is, e) = let same : b ≡ mark = cc in subst (λ x. IsBlobMark x) (sym same) is
 
--- a mark begins a lexeme or a fault, with a quote behind it or without
+-- a mark begins a lexeme or a fault, with a quote after it or without
 marked : (b : ℕ) (bytes : List ℕ) → class_of b ≡ Letter → IsBlobMark b → HasFirst (b ∷ bytes)
 marked b bytes is mark = elim (begins_tells 39 bytes) [
   | inl quote ↦ blob_or_bad b bytes quote.0 mark quote.1
-  | inr unquoted ↦ first_word b bytes is (λ blob. unquoted (quote_behind b bytes blob))
+  | inr unquoted ↦ first_word b bytes is (λ blob. unquoted (quote_next b bytes blob))
 ]
 
 -- a letter begins a lexeme or a fault
@@ -183,7 +183,7 @@ nothing_spoils : BeginsSpoiler [] → ⊥
 nothing_spoils (inl h) = h
 nothing_spoils (inr h) = h
 
--- what stands behind digits spoils a number or does not
+-- what follows digits spoils a number or does not
 spoiler_tells : (rest : List ℕ) → BeginsSpoiler rest ⊎ (¬ BeginsSpoiler rest)
 spoiler_tells [] = inr nothing_spoils
 spoiler_tells (b ∷ rest) = elim (eqb_tells b 46) [ inl point ↦ inl (inl point.1) | inr no_point ↦ spoiler_by b rest (is_in run.Name b) refl no_point.1 ]

@@ -12,7 +12,8 @@ use Rattle.hc_lex.specs.declared.token.TokenKind.TheVariants as kind
 use Rattle.hc_lex.specs.Characters.{IsRun, class_of, is_in}
 use Rattle.hc_lex.specs.Flaws.{BeginsDigits, BeginsStray, IsFlaw}
 use Rattle.hc_lex.specs.Keywords.{keyword_of}
-use Rattle.hc_lex.specs.Quotes.{IsQuote, doubled}
+use Rattle.hc_text.specs.Quotes.{doubled}
+use Rattle.hc_lex.specs.Quotes.{IsQuote}
 use Rattle.hc_lex.specs.Tokens.{BeginsSpoiler, IsBlob, IsBlobMark, IsDigits, greatest_integer, value_of}
 use Rattle.hc_lex.proofs.Classes.{digit_has_class, mark_has_class}
 use Rattle.hc_lex.proofs.FirstLexeme.{Found, blob_in, by_class, closed_by, first_lexeme, found, is_mark, is_spoiler, le_test, quote_34, quote_39, word_kind}
@@ -101,7 +102,7 @@ spoiler_test (b ∷ rest) (inr e) = or_right (b == 46) (is_in run.Name b) e
 too_high : (v : ℕ) → greatest_integer < v → nat_le v greatest_integer ≡ false
 too_high v h = grind (arith, nat_tests)
 
--- behind a number that is spoiled, the fault that is found is the character there
+-- after a number that is spoiled, the fault that is found is the character there
 spoiled_found : (digits rest : List ℕ) → IsDigits digits rest → value_of digits ≤ greatest_integer → BeginsSpoiler rest → IsFound Char (length digits) (digits ++ rest)
 spoiled_found [] rest is fits spoils = absurd (is.0 refl)
 spoiled_found (b ∷ text) rest is fits spoils =
@@ -139,7 +140,7 @@ split_once : (b : ℕ) (front back bytes : List ℕ) (t : Bool) → front ++ bac
 split_once b front back bytes true e = ap (λ bs. b ∷ bs) e
 split_once b front back bytes false e = refl
 
--- the run at the front and what stands behind it are the bytes
+-- the run at the front and what follows it are the bytes
 pub run-split : (k : Run) (bytes : List ℕ) → run_of k bytes ++ after_run k bytes ≡ bytes
 run-split k [] = refl
 run-split k (b ∷ bytes) = split_once b (run_of k bytes) (after_run k bytes) bytes (is_in k b) (run-split k bytes)
@@ -153,29 +154,29 @@ pub run_is_run : (k : Run) (bytes : List ℕ) → IsRun k (run_of k bytes)
 run_is_run k [] = tt
 run_is_run k (b ∷ bytes) = run_once k b (run_of k bytes) (is_in k b) refl (run_is_run k bytes)
 
--- what begins with a quote is a quote and what stands behind it
-behind_quote : (bytes : List ℕ) → begins_byte 39 bytes ≡ true → bytes ≡ 39 ∷ drop 1 bytes
-behind_quote [] e = absurd (false≢true e)
-behind_quote (b ∷ bytes) e = ap (λ x. x ∷ bytes) (eqb-true b 39 e)
+-- what begins with a quote is a quote and what follows it
+after_the_quote : (bytes : List ℕ) → begins_byte 39 bytes ≡ true → bytes ≡ 39 ∷ drop 1 bytes
+after_the_quote [] e = absurd (false≢true e)
+after_the_quote (b ∷ bytes) e = ap (λ x. x ∷ bytes) (eqb-true b 39 e)
 
 -- where no blob stands in front, none is found
-no_blob : (mark : ℕ) (behind : List ℕ) → IsBlobMark mark → ((text rest : List ℕ) → IsBlob text → mark ∷ 39 ∷ behind ≢ text ++ rest) → blob_in behind ≡ None
-no_blob mark behind is ne =
-    let digits : List ℕ = run_of run.Blob behind in
-    let after : List ℕ = after_run run.Blob behind in
+no_blob : (mark : ℕ) (tail : List ℕ) → IsBlobMark mark → ((text rest : List ℕ) → IsBlob text → mark ∷ 39 ∷ tail ≢ text ++ rest) → blob_in tail ≡ None
+no_blob mark tail is ne =
+    let digits : List ℕ = run_of run.Blob tail in
+    let after : List ℕ = after_run run.Blob tail in
     ap (λ t. if t then found kind.Blob (drop 1 after) else None)
     (false_from_ne_true ((length digits % 2 == 0) && begins_byte 39 after)
     (λ e. let two : ((length digits % 2 == 0) ≡ true) × (begins_byte 39 after ≡ true) = both (length digits % 2 == 0) (begins_byte 39 after) e in
-    ne (mark ∷ 39 ∷ digits ++ 39 ∷ []) (drop 1 after) (mark, digits, is, run_is_run run.Blob behind, eqb-true (length digits % 2) 0 two.0, refl)
-    (ap (λ bs. mark ∷ 39 ∷ bs) (sym (run-split run.Blob behind) ∙ ap (λ r. digits ++ r) (behind_quote after two.1) ∙ sym (append_assoc digits (39 ∷ []) (drop 1 after))))))
+    ne (mark ∷ 39 ∷ digits ++ 39 ∷ []) (drop 1 after) (mark, digits, is, run_is_run run.Blob tail, eqb-true (length digits % 2) 0 two.0, refl)
+    (ap (λ bs. mark ∷ 39 ∷ bs) (sym (run-split run.Blob tail) ∙ ap (λ r. digits ++ r) (after_the_quote after two.1) ∙ sym (append_assoc digits (39 ∷ []) (drop 1 after))))))
 
 -- a mark and a quote that begin no blob are the fault that is found
-blob_flaw : (mark : ℕ) (behind : List ℕ) → IsBlobMark mark → ((text rest : List ℕ) → IsBlob text → mark ∷ 39 ∷ behind ≢ text ++ rest) → IsFound BadBlob 0 (mark ∷ 39 ∷ behind)
-blob_flaw mark behind is ne = (
-  by_class mark (39 ∷ behind) Letter (mark_has_class mark is)
-      ∙ ap (λ t. if t && true then blob_in behind else found (word_kind (keyword_of (run_of run.Name (mark ∷ 39 ∷ behind)))) (after_run run.Name (mark ∷ 39 ∷ behind))) (is_mark mark is)
-      ∙ no_blob mark behind is ne,
-  flaw_class mark (39 ∷ behind) Letter (mark_has_class mark is),
+blob_flaw : (mark : ℕ) (tail : List ℕ) → IsBlobMark mark → ((text rest : List ℕ) → IsBlob text → mark ∷ 39 ∷ tail ≢ text ++ rest) → IsFound BadBlob 0 (mark ∷ 39 ∷ tail)
+blob_flaw mark tail is ne = (
+  by_class mark (39 ∷ tail) Letter (mark_has_class mark is)
+      ∙ ap (λ t. if t && true then blob_in tail else found (word_kind (keyword_of (run_of run.Name (mark ∷ 39 ∷ tail)))) (after_run run.Name (mark ∷ 39 ∷ tail))) (is_mark mark is)
+      ∙ no_blob mark tail is ne,
+  flaw_class mark (39 ∷ tail) Letter (mark_has_class mark is),
 )
 
 -- what the definition says is a fault is the one that is found
@@ -184,8 +185,8 @@ flaw_found Char offset bytes (inl (e, stray)) = moved Char offset 0 bytes bytes 
 flaw_found Char offset bytes (inr (digits, rest, begins, fits, spoils, e)) =
     moved Char offset (length digits) bytes (digits ++ rest) e begins.0 (spoiled_found digits rest begins.1 fits spoils)
 flaw_found OpenText offset bytes (e, quote, is, (inner, whole)) = moved OpenText offset 0 bytes (quote ∷ doubled quote inner) e whole (open_found quote inner is)
-flaw_found BadBlob offset bytes (e, (mark, behind, is, whole), ne) =
-    moved BadBlob offset 0 bytes (mark ∷ 39 ∷ behind) e whole (blob_flaw mark behind is (λ text rest blob same. ne text rest blob (whole ∙ same)))
+flaw_found BadBlob offset bytes (e, (mark, tail, is, whole), ne) =
+    moved BadBlob offset 0 bytes (mark ∷ 39 ∷ tail) e whole (blob_flaw mark tail is (λ text rest blob same. ne text rest blob (whole ∙ same)))
 flaw_found TooLarge offset bytes (e, digits, rest, begins, high) = moved TooLarge offset 0 bytes (digits ++ rest) e begins.0 (large_found digits rest begins.1 high)
 
 -- no fault stands at the end of a text
@@ -198,5 +199,5 @@ pub no_flaw_at_end : (k : LexKind) (offset : ℕ) → IsFlaw k offset [] → ⊥
 no_flaw_at_end Char offset (inl (e, stray)) = stray
 no_flaw_at_end Char offset (inr (digits, rest, begins, fits, spoils, e)) = nothing_begins digits rest begins
 no_flaw_at_end OpenText offset (e, quote, is, (inner, whole)) = let same : [] ≡ quote ∷ doubled quote inner = whole in cc
-no_flaw_at_end BadBlob offset (e, (mark, behind, is, whole), ne) = let same : [] ≡ mark ∷ 39 ∷ behind = whole in cc
+no_flaw_at_end BadBlob offset (e, (mark, tail, is, whole), ne) = let same : [] ≡ mark ∷ 39 ∷ tail = whole in cc
 no_flaw_at_end TooLarge offset (e, digits, rest, begins, high) = nothing_begins digits rest begins

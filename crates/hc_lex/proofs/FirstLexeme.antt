@@ -12,18 +12,19 @@ use Rattle.hc_lex.specs.declared.token.TokenKind.TheVariants as kind
 use Rattle.hc_lex.specs.Blanks.{IsBlank}
 use Rattle.hc_lex.specs.Characters.{IsRun, class_of, is_in}
 use Rattle.hc_lex.specs.Keywords.{keyword_of}
-use Rattle.hc_lex.specs.Quotes.{IsQuoted, doubled}
+use Rattle.hc_text.specs.Quotes.{doubled}
+use Rattle.hc_lex.specs.Quotes.{IsQuoted}
 use Rattle.hc_lex.specs.Reading.{IsTokenOrBlank}
 use Rattle.hc_lex.specs.Tokens.{BeginsBlob, BeginsSpoiler, IsBlob, IsBlobMark, IsToken, IsWord, greatest_integer, value_of}
 use Rattle.hc_lex.proofs.Classes.{digit_has_class, mark_has_class}
 use Rattle.hc_lex.proofs.Runs.{quote_is_no_hex}
 use Rattle.hc_lex.proofs.Scans.{after_close, after_close-closed, after_close-open, after_quote, after_quote-closed, after_run, after_run-run, begins_byte, begins_is, begins_not, both, run_of, run_of-run}
 
--- a kind, with what stands behind it, or nothing where none begins
+-- a kind, with what follows it, or nothing where none begins
 abbrev pub Found : Type 0
 Found = Option (Option TokenKind × List ℕ)
 
--- a token of this kind, and `rest` behind it
+-- a token of this kind, and `rest` after it
 abbrev pub found : TokenKind → List ℕ → Found
 found k rest = Some (Some k, rest)
 
@@ -36,7 +37,7 @@ word_kind (Some k) = kind.Keyword k
 abbrev pub blob_in : List ℕ → Found
 blob_in bytes = if (length (run_of run.Blob bytes) % 2 == 0) && begins_byte 39 (after_run run.Blob bytes) then found kind.Blob (drop 1 (after_run run.Blob bytes)) else None
 
--- `x` or `X` with a quote behind it
+-- `x` or `X` with a quote after it
 abbrev pub is_blob_start : ℕ → List ℕ → Bool
 is_blob_start b bytes = (b == 120 || b == 88) && begins_byte 39 bytes
 
@@ -46,7 +47,7 @@ word_in b bytes =
     if is_blob_start b bytes then blob_in (drop 1 bytes)
     else found (word_kind (keyword_of (run_of run.Name (b ∷ bytes)))) (after_run run.Name (b ∷ bytes))
 
--- whether what stands behind a number may not follow it
+-- whether what follows a number may not follow it
 abbrev pub is_spoiler : List ℕ → Bool
 is_spoiler [] = false
 is_spoiler (b ∷ bytes) = b == 46 || is_in run.Name b
@@ -62,7 +63,7 @@ abbrev pub closed_by : TokenKind → Option (List ℕ) → Found
 closed_by k None = None
 closed_by k (Some rest) = found k rest
 
--- the text or the quoted name behind this quote
+-- the text or the quoted name after this quote
 abbrev pub quoted_in : ℕ → List ℕ → Found
 quoted_in b bytes = closed_by (if b == 34 then kind.QuotedName else kind.Text) (after_quote b false bytes)
 
@@ -101,7 +102,7 @@ unfoldable pub first_lexeme : List ℕ → Found
 first_lexeme [] = None
 first_lexeme (b ∷ bytes) = lexeme_in (class_of b) b bytes
 
--- the lexeme of this kind is found, with `rest` behind it
+-- the lexeme of this kind is found, with `rest` after it
 abbrev Finds : List ℕ → Option TokenKind → List ℕ → Type 0
 Finds bytes k rest = first_lexeme bytes ≡ Some (k, rest)
 
@@ -263,3 +264,8 @@ token_found kind.Semicolon text rest is = ap (λ t. first_lexeme (t ++ rest)) is
 pub lexeme_found : (k : Option TokenKind) (text rest : List ℕ) → IsTokenOrBlank k text rest → first_lexeme (text ++ rest) ≡ Some (k, rest)
 lexeme_found None text rest is = blank_found text rest is
 lexeme_found (Some k) text rest is = token_found k text rest is
+
+-- where the text ends, no lexeme is found
+pub no_lexeme_at_end : first_lexeme [] ≡ None
+unfolding first_lexeme
+no_lexeme_at_end = refl

@@ -9,12 +9,13 @@ use Rattle.hc_lex.specs.declared.part.Part.{Part}
 use Rattle.hc_lex.specs.declared.part.Part.TheVariants.{Blank, Statement, Separator}
 use Rattle.hc_lex.specs.Blanks.{IsBlank}
 use Rattle.hc_lex.specs.Characters.{BeginsWith, class_of}
-use Rattle.hc_lex.specs.Quotes.{IsQuote, doubled}
+use Rattle.hc_text.specs.Quotes.{doubled}
+use Rattle.hc_lex.specs.Quotes.{IsQuote}
 use Rattle.hc_lex.specs.Statements.{IsLiteral, IsPart, IsPlain}
 use Rattle.hc_lex.proofs.Classes.{quote_class}
 use Rattle.hc_lex.proofs.Scans.{after_close, after_close-closed, after_close-open, after_quote, after_quote-closed, after_quote-open, after_run, after_run-run, begins_byte, begins_is, both, not_equal}
 
--- the kind of a part, with what stands behind it, or nothing
+-- the kind of a part, with what follows it, or nothing
 abbrev pub Found : Type 0
 Found = Option (Part × List ℕ)
 

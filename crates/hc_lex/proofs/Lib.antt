@@ -9,6 +9,7 @@ mod FirstLexeme
 mod FirstPart
 mod Fronts
 mod Lengths
+mod LexemeParts
 mod OneReading
 mod PartLemmas
 mod PlaceLemmas
@@ -16,5 +17,8 @@ mod Quoted
 mod Runs
 mod Scans
 mod SpansSoFar
-mod TokensSoFar
+mod StatementPieces
+mod StatementTokens
+mod TokensBetween
 mod Values
+mod WordOrder

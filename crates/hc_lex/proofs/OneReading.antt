@@ -1,5 +1,5 @@
 -- A text has one list of tokens or one fault at most, and one list of statements.
-use Rattle.std.proofs.Common.{◌≡◌, ◌∙◌, ℕ, List, [], None, Ok, Err, length, refl, sym, ap, arith, subst}
+use Rattle.std.proofs.Common.{◌≡◌, ◌∙◌, ℕ, List, [], Ok, Err, length, sym, ap, arith, subst}
 use Rattle.hc_lex.specs.declared.fault.LexFault.{LexFault}
 use Rattle.hc_lex.specs.declared.fault.LexFault.TheVariants.{Bad, NoMemory}
 use Rattle.hc_lex.specs.declared.fault.LexKind.{LexKind}
@@ -9,14 +9,9 @@ use Rattle.hc_lex.specs.Laws.{HasOneFault, HasOneListOfStatements, HasOneListOfT
 use Rattle.hc_lex.specs.Reading.{HasFault, HasTokens, IsFaultOf, IsTokenOrBlank, IsUnlessNoMemory, tokens_of}
 use Rattle.hc_lex.specs.Statements.{IsPart, spans_of}
 use Rattle.hc_lex.proofs.FirstFlaw.{first_flaw, flaw_found, no_flaw_at_end}
-use Rattle.hc_lex.proofs.FirstLexeme.{first_lexeme, lexeme_found}
+use Rattle.hc_lex.proofs.FirstLexeme.{first_lexeme, lexeme_found, no_lexeme_at_end}
 use Rattle.hc_lex.proofs.FirstPart.{first_part, no_part_at_end, part_found}
 use Rattle.hc_lex.proofs.Fronts.{front_is_one}
-
--- where the text ends, no lexeme is found
-no_lexeme_at_end : first_lexeme [] ≡ None
-unfolding first_lexeme
-no_lexeme_at_end = refl
 
 -- a text has one list of tokens at most
 pub tokens_are_one : HasOneListOfTokens

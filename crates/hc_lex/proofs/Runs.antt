@@ -35,7 +35,7 @@ pub odd_is_no_blob : (bytes digits rest : List ℕ) → BeginsRun run.Blob bytes
 odd_is_no_blob bytes digits rest is odd after closes =
     odd (ap (λ d. length d % 2) (blob_digits bytes digits rest closes.0 after is closes.1 closes.3).0 ∙ closes.2)
 
--- digits with no quote behind them close no blob
+-- digits with no quote after them close no blob
 pub open_is_no_blob : (bytes digits rest : List ℕ) → BeginsRun run.Blob bytes digits rest → ¬ BeginsWith 39 rest → ClosesNoBlob bytes
 open_is_no_blob bytes digits rest is unquoted after closes =
     unquoted (subst (λ r. BeginsWith 39 r) (sym (blob_digits bytes digits rest closes.0 after is closes.1 closes.3).1) refl)

@@ -5,7 +5,7 @@ use Rattle.std.proofs.lemmas.List.{append-nil}
 use Rattle.hc_lex.specs.declared.character.Run.{Run}
 use Rattle.hc_lex.specs.Blanks.{HasNoClose}
 use Rattle.hc_lex.specs.Characters.{BeginsWith, GoesOn, IsRun, is_in}
-use Rattle.hc_lex.specs.Quotes.{doubled}
+use Rattle.hc_text.specs.Quotes.{doubled}
 
 -- whether the bytes begin with this one
 abbrev pub begins_byte : ℕ → List ℕ → Bool
@@ -26,7 +26,7 @@ abbrev pub run_of : Run → List ℕ → List ℕ
 run_of k [] = []
 run_of k (b ∷ bytes) = if is_in k b then b ∷ run_of k bytes else []
 
--- what stands behind it
+-- what follows it
 abbrev pub after_run : Run → List ℕ → List ℕ
 after_run k [] = []
 after_run k (b ∷ bytes) = if is_in k b then after_run k bytes else b ∷ bytes
@@ -38,14 +38,14 @@ run_of-run k [] (b ∷ rest) is end = ap (λ t. if t then b ∷ run_of k rest el
 run_of-run k (b ∷ text) rest is end =
     ap (λ t. if t then b ∷ run_of k (text ++ rest) else []) is.0 ∙ ap (λ bytes. b ∷ bytes) (run_of-run k text rest is.1 end)
 
--- and what stands behind it is what is left
+-- and what follows it is what is left
 pub after_run-run : (k : Run) (text rest : List ℕ) → IsRun k text → ¬ GoesOn k rest → after_run k (text ++ rest) ≡ rest
 after_run-run k [] [] is end = refl
 after_run-run k [] (b ∷ rest) is end = ap (λ t. if t then after_run k rest else b ∷ rest) (false_from_ne_true (is_in k b) end)
 after_run-run k (b ∷ text) rest is end =
     ap (λ t. if t then after_run k (text ++ rest) else b ∷ text ++ rest) is.0 ∙ after_run-run k text rest is.1 end
 
--- what stands behind the closing quote, where the last character may have been a quote that is the first of two
+-- what follows the closing quote, where the last character may have been a quote that is the first of two
 abbrev pub after_quote : ℕ → Bool → List ℕ → Option (List ℕ)
 after_quote quote false [] = None
 after_quote quote false (b ∷ bytes) = if b == quote then after_quote quote true bytes else after_quote quote false bytes
@@ -66,12 +66,12 @@ within_all quote (b ∷ inner) rest =
     ap (λ bytes. after_quote quote false bytes) (append_assoc (if b == quote then b ∷ b ∷ [] else b ∷ []) (doubled quote inner) rest)
     ∙ within_quotes quote b (doubled quote inner ++ rest) (b == quote) refl ∙ within_all quote inner rest
 
--- behind the closing quote that no second follows, the rest is left
+-- after the closing quote that no second follows, the rest is left
 closing : (quote : ℕ) (rest : List ℕ) → ¬ BeginsWith quote rest → after_quote quote true rest ≡ Some rest
 closing quote [] ne = refl
 closing quote (b ∷ rest) ne = ap (λ t. if t then after_quote quote false rest else Some (b ∷ rest)) (not_equal b quote ne)
 
--- behind a literal that closes, what stands behind its quote is left
+-- after a literal that closes, what follows its quote is left
 pub after_quote-closed : (quote : ℕ) (inner rest : List ℕ) → ¬ BeginsWith quote rest → after_quote quote false (doubled quote inner ++ quote ∷ rest) ≡ Some rest
 after_quote-closed quote inner rest ne =
     within_all quote inner (quote ∷ rest)
@@ -82,7 +82,7 @@ pub after_quote-open : (quote : ℕ) (inner : List ℕ) → after_quote quote fa
 after_quote-open quote inner =
     ap (λ bytes. after_quote quote false bytes) (sym (append-nil (doubled quote inner))) ∙ within_all quote inner []
 
--- what stands behind the first `*/`
+-- what follows the first `*/`
 abbrev pub after_close : List ℕ → List ℕ
 after_close [] = []
 after_close (b ∷ bytes) = if b == 42 && begins_byte 47 bytes then drop 1 bytes else after_close bytes
@@ -103,19 +103,19 @@ no_close_here b bytes ne =
     false_from_ne_true (b == 42 && begins_byte 47 bytes)
     (λ e. let two : ((b == 42) ≡ true) × (begins_byte 47 bytes ≡ true) = both (b == 42) (begins_byte 47 bytes) e in ne (eqb-true b 42 two.0, begins_is 47 bytes two.1))
 
--- bytes that begin with a slash with `*/` behind them do so by themselves
+-- bytes that begin with a slash with `*/` after them do so by themselves
 before_close : (inner rest : List ℕ) → BeginsWith 47 (inner ++ 42 ∷ 47 ∷ rest) → BeginsWith 47 inner
 before_close [] rest e = let same : ◌≡◌ {A = ℕ} 42 47 = e in absurd (omega arith)
 before_close (c ∷ inner) rest e = e
 
--- behind bytes without `*/` and then it, the rest is left
+-- after bytes without `*/` and then it, the rest is left
 pub after_close-closed : (inner rest : List ℕ) → HasNoClose inner → after_close (inner ++ 42 ∷ 47 ∷ rest) ≡ rest
 after_close-closed [] rest none = refl
 after_close-closed (b ∷ inner) rest none =
     ap (λ t. if t then drop 1 (inner ++ 42 ∷ 47 ∷ rest) else after_close (inner ++ 42 ∷ 47 ∷ rest)) (no_close_here b (inner ++ 42 ∷ 47 ∷ rest) (λ p. none.0 (p.0, before_close inner rest p.1)))
     ∙ after_close-closed inner rest none.1
 
--- behind bytes without `*/`, nothing is left
+-- after bytes without `*/`, nothing is left
 pub after_close-open : (inner : List ℕ) → HasNoClose inner → after_close inner ≡ []
 after_close-open [] none = refl
 after_close-open (b ∷ inner) none =

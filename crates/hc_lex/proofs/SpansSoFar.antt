@@ -20,7 +20,7 @@ continued places (group ∷ groups) = (places ++ group) ∷ groups
 abbrev pub spans_from : ℕ → List ℕ → List Part → List Span
 spans_from at places parts = filter_map span_of (continued places (groups_of at parts))
 
--- a place more in the first group stands behind the places in front of it
+-- a place more in the first group follows the places in front of it
 pub continued-with_place : (places : List ℕ) (at : ℕ) (groups : List (List ℕ)) → continued places (with_place at groups) ≡ continued (places ++ at ∷ []) groups
 continued-with_place places at [] = refl
 continued-with_place places at (group ∷ groups) = ap (λ g. g ∷ groups) (sym (append_assoc places (at ∷ []) group))
@@ -35,13 +35,13 @@ abbrev pub range : ℕ → ℕ → List ℕ
 range at zero = []
 range at (suc n) = at ∷ range (at + 1) n
 
--- behind bytes of blanks, the spans begin so many places on
+-- after bytes of blanks, the spans begin so many places on
 pub spans_from-blank : (n at : ℕ) (places : List ℕ) (more : List Part) → spans_from at places (replicate n Blank ++ more) ≡ spans_from (at + n) places more
 spans_from-blank zero at places more = ap (λ k. spans_from k places more) (let e : at ≡ at + 0 = omega arith in e)
 spans_from-blank (suc n) at places more =
     spans_from-blank n (at + 1) places more ∙ ap (λ k. spans_from k places more) (let e : at + 1 + n ≡ at + suc n = omega arith in e)
 
--- behind bytes of a statement, it goes on with their places
+-- after bytes of a statement, it goes on with their places
 pub spans_from-own : (n at : ℕ) (places : List ℕ) (more : List Part) → spans_from at places (replicate n Statement ++ more) ≡ spans_from (at + n) (places ++ range at n) more
 spans_from-own zero at places more =
     ap (λ k. spans_from k places more) (let e : at ≡ at + 0 = omega arith in e) ∙ ap (λ ps. spans_from (at + 0) ps more) (sym (append-nil places))
@@ -51,7 +51,7 @@ spans_from-own (suc n) at places more =
     ∙ ap (λ k. spans_from k ((places ++ at ∷ []) ++ range (at + 1) n) more) (let e : at + 1 + n ≡ at + suc n = omega arith in e)
     ∙ ap (λ ps. spans_from (at + suc n) ps more) (append_assoc places (at ∷ []) (range (at + 1) n))
 
--- at the end of a statement stands its span, and none goes on behind it
+-- at the end of a statement stands its span, and none goes on after it
 pub spans_from-end : (at : ℕ) (places : List ℕ) (more : List Part) → spans_from at places (Separator ∷ more) ≡ option_to_list (span_of places) ++ spans_from (at + 1) [] more
 spans_from-end at places more =
     ap (λ ps. filter_map span_of (ps ∷ groups_of (at + 1) more)) (append-nil places)
@@ -75,21 +75,21 @@ last_from : (at n : ℕ) → last_of at (range (at + 1) n) ≡ at + n
 last_from at zero = omega arith
 last_from at (suc n) = last_from (at + 1) n ∙ (let e : at + 1 + n ≡ at + suc n = omega arith in e)
 
--- where places end with n + 1 from a place on, the last is n behind it
-pub last_behind : (place : ℕ) (places : List ℕ) (at n : ℕ) → last_of place (places ++ range at (suc n)) + 1 ≡ at + suc n
-last_behind place [] at n = omega (arith, last_from at n)
-last_behind place (next ∷ places) at n = last_behind next places at n
+-- where places end with n + 1 from a place on, the last is n after it
+pub last_after : (place : ℕ) (places : List ℕ) (at n : ℕ) → last_of place (places ++ range at (suc n)) + 1 ≡ at + suc n
+last_after place [] at n = omega (arith, last_from at n)
+last_after place (next ∷ places) at n = last_after next places at n
 
 -- a span with these ends is that span
 same_span : (s : Span) (from to : ℕ) → s.from ≡ from → s.to ≡ to → s ≡ record { from = from; to = to }
 same_span s from to e f = ap (λ k. record s { from = k }) e ∙ ap (λ k. record { from = from; to = k }) f
 
--- the span that goes on up to behind the new places
+-- the span that goes on to the end of the new places
 own_span : (places : List ℕ) (n at : ℕ) (s : Span) → s.from ≡ option_map_or (λ span. span.from) (span_of places) at → s.to ≡ at + n → 0 < n → Some s ≡ span_of (places ++ range at n)
 own_span places zero at s from to some = absurd (omega arith)
 own_span [] (suc n) at s from to some = ap Some (same_span s at (last_of at (range (at + 1) n) + 1) from (omega (arith, last_from at n)))
 own_span (place ∷ places) (suc n) at s from to some =
-    ap Some (same_span s place (last_of place (places ++ range at (suc n)) + 1) from (omega (arith, last_behind place places at n)))
+    ap Some (same_span s place (last_of place (places ++ range at (suc n)) + 1) from (omega (arith, last_after place places at n)))
 
 -- the bytes were read up to `rest`: these statements have ended, and one may not have
 pub record SpansSoFar (bytes rest : List ℕ) (found : List Span) (unfinished : Option Span) : Type 0 where
@@ -114,7 +114,7 @@ size_of-push : (ps : List (Piece Part)) (p : Piece Part) → size_of (ps ++ p �
 size_of-push [] p = omega arith
 size_of-push (q ∷ ps) p = omega (arith, size_of-push ps p)
 
--- with one piece more, its parts stand behind the others
+-- with one piece more, its parts follow the others
 parts_of-push : (ps : List (Piece Part)) (p : Piece Part) → parts_of (ps ++ p ∷ []) ≡ parts_of ps ++ replicate (length p.text) p.kind
 parts_of-push ps p =
     flat_map-append (λ q. replicate (length q.text) q.kind) ps (p ∷ []) ∙ ap (λ parts. parts_of ps ++ parts) (append-nil (replicate (length p.text) p.kind))
@@ -129,12 +129,12 @@ with_piece ps p found places more spans =
     ∙ spans (replicate (length p.text) p.kind ++ more)
 
 -- with a blank more, the same statements have ended and the same one goes on
-pub blank_read : (bytes rest behind : List ℕ) (found : List Span) (unfinished : Option Span) → SpansSoFar bytes rest found unfinished → Skips (IsPart Blank) rest behind → SpansSoFar bytes behind found unfinished
-blank_read bytes rest behind found unfinished s skips =
+pub blank_read : (bytes rest tail : List ℕ) (found : List Span) (unfinished : Option Span) → SpansSoFar bytes rest found unfinished → Skips (IsPart Blank) rest tail → SpansSoFar bytes tail found unfinished
+blank_read bytes rest tail found unfinished s skips =
     let p : Piece Part = piece Blank skips.0 in
     record {
       pieces = s.pieces ++ p ∷ [];
-      front = Front-push IsPart s.pieces bytes rest Blank skips.0 behind s.front skips.1 skips.2;
+      front = Front-push IsPart s.pieces bytes rest Blank skips.0 tail s.front skips.1 skips.2;
       places = s.places;
       unfinished_is = s.unfinished_is;
       spans = λ more. with_piece s.pieces p found s.places more s.spans
@@ -142,19 +142,19 @@ blank_read bytes rest behind found unfinished s skips =
           ∙ ap (λ k. spans_from k s.places more) (sym (size_of-push s.pieces p)));
     }
 
--- with a piece of a statement more, the one that goes on ends behind it
-pub own_read : (bytes rest behind : List ℕ) (found : List Span) (unfinished : Option Span) (span : Span) (from to : ℕ) → SpansSoFar bytes rest found unfinished → Skips (IsPart Statement) rest behind
-    → from ≡ length bytes - length rest → to ≡ length bytes - length behind → span.from ≡ option_map_or (λ s. s.from) unfinished from → span.to ≡ to → length behind < length rest
-    → SpansSoFar bytes behind found (Some span)
-own_read bytes rest behind found unfinished span from to s skips from_is to_is span_from span_to moves =
+-- with a piece of a statement more, the one that goes on ends after it
+pub own_read : (bytes rest tail : List ℕ) (found : List Span) (unfinished : Option Span) (span : Span) (from to : ℕ) → SpansSoFar bytes rest found unfinished → Skips (IsPart Statement) rest tail
+    → from ≡ length bytes - length rest → to ≡ length bytes - length tail → span.from ≡ option_map_or (λ s. s.from) unfinished from → span.to ≡ to → length tail < length rest
+    → SpansSoFar bytes tail found (Some span)
+own_read bytes rest tail found unfinished span from to s skips from_is to_is span_from span_to moves =
     let p : Piece Part = piece Statement skips.0 in
     let whole : length bytes ≡ size_of s.pieces + length rest = Front-size IsPart s.pieces bytes rest s.front in
-    let left : length rest ≡ length skips.0 + length behind = ap length skips.1 ∙ length-append skips.0 behind in
+    let left : length rest ≡ length skips.0 + length tail = ap length skips.1 ∙ length-append skips.0 tail in
     let at_from : from ≡ size_of s.pieces = omega arith in
     let at_to : span.to ≡ size_of s.pieces + length skips.0 = omega arith in
     record {
       pieces = s.pieces ++ p ∷ [];
-      front = Front-push IsPart s.pieces bytes rest Statement skips.0 behind s.front skips.1 skips.2;
+      front = Front-push IsPart s.pieces bytes rest Statement skips.0 tail s.front skips.1 skips.2;
       places = s.places ++ range (size_of s.pieces) (length skips.0);
       unfinished_is = own_span s.places (length skips.0) (size_of s.pieces) span
           (span_from ∙ ap (λ o. option_map_or (λ x. x.from) o from) s.unfinished_is ∙ ap (λ k. option_map_or (λ x. x.from) (span_of s.places) k) at_from) at_to (omega arith);
@@ -164,13 +164,13 @@ own_read bytes rest behind found unfinished span from to s skips from_is to_is s
     }
 
 -- with the end of a statement more, the one that went on has ended
-pub end_read : (bytes rest behind : List ℕ) (found more : List Span) (unfinished : Option Span) → SpansSoFar bytes rest found unfinished → Skips (IsPart Separator) rest behind → more ≡ found ++ option_to_list unfinished → SpansSoFar bytes behind more None
-end_read bytes rest behind found more unfinished s skips more_is =
+pub end_read : (bytes rest tail : List ℕ) (found more : List Span) (unfinished : Option Span) → SpansSoFar bytes rest found unfinished → Skips (IsPart Separator) rest tail → more ≡ found ++ option_to_list unfinished → SpansSoFar bytes tail more None
+end_read bytes rest tail found more unfinished s skips more_is =
     let p : Piece Part = piece Separator skips.0 in
     let one : length skips.0 ≡ 1 = ap length skips.2 in
     record {
       pieces = s.pieces ++ p ∷ [];
-      front = Front-push IsPart s.pieces bytes rest Separator skips.0 behind s.front skips.1 skips.2;
+      front = Front-push IsPart s.pieces bytes rest Separator skips.0 tail s.front skips.1 skips.2;
       places = [];
       unfinished_is = refl;
       spans = λ later. with_piece s.pieces p found s.places later s.spans

@@ -1,6 +1,6 @@
--- The faults: what stands where no token and no space or comment begins.
+-- The faults: what is there where no token and no space or comment begins.
 --
--- That the longest number is looked at, and that a character behind it is the fault where its value fits, are
+-- That the longest number is looked at, and that a character after it is the fault where its value fits, are
 -- rules of our own, as are the kinds.
 use Rattle.std.specs.Prelude.{◌≡◌, ◌≢◌, ◌⊎◌, ◌<◌, ◌≤◌, ℕ, List, [], ◌∷◌, ◌++◌, length}
 use Rattle.hc_lex.specs.declared.character.Class.TheVariants.{Dollar, Other}
@@ -10,7 +10,7 @@ use Rattle.hc_lex.specs.Characters.{class_of, BeginsWith}
 use Rattle.hc_lex.specs.Quotes.{IsOpenQuoted, IsQuote}
 use Rattle.hc_lex.specs.Tokens.{BeginsBlob, BeginsSpoiler, IsBlob, IsDigits, greatest_integer, value_of}
 
--- a character that begins no token: one of no use, `$`, `!` without `=` behind it, or `|` without a second
+-- a character that begins no token: one of no use, `$`, `!` without `=` after it, or `|` without a second
 abbrev pub BeginsStray : List ℕ → Type 0
 BeginsStray [] = ⊥
 BeginsStray (b ∷ bytes) = (class_of b ≡ Other) ⊎ ((class_of b ≡ Dollar)
@@ -20,12 +20,12 @@ BeginsStray (b ∷ bytes) = (class_of b ≡ Other) ⊎ ((class_of b ≡ Dollar)
 abbrev pub BeginsDigits : List ℕ → List ℕ → List ℕ → Type 0
 BeginsDigits bytes digits rest = (bytes ≡ digits ++ rest) × IsDigits digits rest
 
--- a number that fits has `offset` digits, and may not be followed by what stands behind them
+-- a number that fits has `offset` digits, and is followed by what may not follow a number
 abbrev pub IsSpoiled : ℕ → List ℕ → Type 0
 IsSpoiled offset bytes = (digits rest : List ℕ) × BeginsDigits bytes digits rest × (value_of digits ≤ greatest_integer)
     × BeginsSpoiler rest × (offset ≡ length digits)
 
--- at these bytes no token and no space or comment begins: a fault of this kind stands `offset` bytes on
+-- at these bytes no token and no space or comment begins: a fault of this kind is `offset` bytes on
 abbrev pub IsFlaw : LexKind → ℕ → List ℕ → Type 0
 IsFlaw Char offset bytes = ((offset ≡ 0) × BeginsStray bytes) ⊎ IsSpoiled offset bytes
 IsFlaw OpenText offset bytes = (offset ≡ 0) × (quote : ℕ) × IsQuote quote × IsOpenQuoted quote bytes

@@ -3,8 +3,13 @@
 -- SQLite's lang_keywords.html has a longer list. Which words are keywords here is a rule of our own: those of the
 -- statements that are read, also BLOB, CONCURRENT, INTEGER, STRICT and TEXT, which SQLite takes for names. Every
 -- other word is a name, as are ASC, DESC and those of functions.
-use Rattle.std.specs.Prelude.{ℕ, if◌then◌else◌, List, [], ◌∷◌, Option, Some, None, codes}
-use Rattle.std.specs.Str.{str_eq_ignore_ascii_case}
+use Rattle.std.specs.Prelude.{◌≡◌, ℕ, if◌then◌else◌, List, [], ◌∷◌, Option, Some, None, codes, ⊤}
+use Rattle.std.specs.Ordering.{nat_cmp}
+use Rattle.std.specs.Cmp.Lexicographic.{slice_cmp}
+use Rattle.std.specs.List.{AllByRecursion}
+use Rattle.std.specs.Str.{str_eq_ignore_ascii_case, str_to_ascii_lowercase}
+use Rattle.std.specs.declared.cmp.Ordering.{Ordering}
+use Rattle.std.specs.declared.cmp.Ordering.TheVariants.{Less}
 use Rattle.hc_lex.specs.declared.keyword.Keyword.{Keyword}
 use Rattle.hc_lex.specs.declared.keyword.Keyword.TheVariants as word
 
@@ -68,6 +73,15 @@ table =
 abbrev pub lookup : List (List ℕ × Keyword) → List ℕ → Option Keyword
 lookup [] text = None
 lookup (entry ∷ entries) text = if str_eq_ignore_ascii_case entry.0 text then Some entry.1 else lookup entries text
+
+-- how a word compares with another, where ASCII letters of either case are the same
+abbrev pub word_cmp : List ℕ → List ℕ → Ordering
+word_cmp one other = slice_cmp nat_cmp (str_to_ascii_lowercase one) (str_to_ascii_lowercase other)
+
+-- each word of a table is below those after it
+abbrev pub Rises : List (List ℕ × Keyword) → Type 0
+Rises [] = ⊤
+Rises (entry ∷ entries) = AllByRecursion (λ other. word_cmp entry.0 other.0 ≡ Less) entries × Rises entries
 
 -- the keyword that a word is
 unfoldable pub keyword_of : List ℕ → Option Keyword

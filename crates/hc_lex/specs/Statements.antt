@@ -11,7 +11,7 @@ use Rattle.hc_lex.specs.Blanks.{BeginsNoBlank, IsBlank}
 use Rattle.hc_lex.specs.Pieces.{Piece, Front}
 use Rattle.hc_lex.specs.Quotes.{IsOpenQuoted, IsQuote, IsQuoted}
 
--- A text or a quoted name, also one that does not end. A blob's digits are the same here as a text behind an `x`,
+-- A text or a quoted name, also one that does not end. A blob's digits are the same here as a text after an `x`,
 -- good or bad.
 abbrev pub IsLiteral : List ℕ → List ℕ → Type 0
 IsLiteral text rest = (quote : ℕ) × IsQuote quote × (IsQuoted quote text rest ⊎ (IsOpenQuoted quote text × (rest ≡ [])))
@@ -20,13 +20,13 @@ IsLiteral text rest = (quote : ℕ) × IsQuote quote × (IsQuoted quote text res
 abbrev pub IsPlain : ℕ → List ℕ → Type 0
 IsPlain b rest = BeginsNoBlank (b ∷ rest) × ¬ IsQuote b × (b ≢ 59)
 
--- `text` stands in this, where `rest` stands behind it
+-- `text` is such a part, where `rest` follows it
 abbrev pub IsPart : Part → List ℕ → List ℕ → Type 0
 IsPart Blank text rest = IsBlank text rest
 IsPart Statement text rest = IsLiteral text rest ⊎ ((b : ℕ) × (text ≡ b ∷ []) × IsPlain b rest)
 IsPart Separator text rest = text ≡ codes ";"
 
--- what each byte stands in
+-- what each byte belongs to
 abbrev pub parts_of : List (Piece Part) → List Part
 parts_of pieces = flat_map (λ piece. replicate (length piece.text) piece.kind) pieces
 
@@ -47,7 +47,7 @@ abbrev pub last_of : ℕ → List ℕ → ℕ
 last_of place [] = place
 last_of place (next ∷ places) = last_of next places
 
--- from the first place to behind the last one, and no statement where there is none
+-- from the first place up to the last one, and no statement where there is none
 abbrev pub span_of : List ℕ → Option Span
 span_of [] = None
 span_of (place ∷ places) = Some (record { from = place; to = last_of place places + 1 })

@@ -14,7 +14,7 @@ pub enum Class {
     Other,
 }
 
-/// Characters that stand together: those of a name, of a number, of a blob, of a line comment.
+/// Characters that belong together: those of a name, of a number, of a blob, of a line comment.
 #[derive(Clone, Copy, Debug)]
 pub enum Run {
     Name,
@@ -51,7 +51,7 @@ pub fn is_in(run: Run, b: u8) -> bool
     }
 }
 
-/// The longest run in front, which may be empty, and what stands behind it.
+/// The longest run in front, which may be empty, and what follows it.
 pub fn split_run(run: Run, bytes: &[u8]) -> (&[u8], &[u8])
     ensures { BeginsRun run bytes.now result.0.now result.1.now }
 {
@@ -63,7 +63,7 @@ pub fn split_run(run: Run, bytes: &[u8]) -> (&[u8], &[u8])
     (bytes, &[])
 }
 
-/// What stands behind this byte, where it stands in front.
+/// What follows this byte, where it is in front.
 pub fn skip_byte(b: u8, bytes: &[u8]) -> Option<&[u8]>
     ensures { MatchOption result (¬ BeginsWith b bytes.now) (λ rest. bytes.now ≡ b ∷ rest.now) }
 {

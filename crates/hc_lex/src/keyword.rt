@@ -1,7 +1,8 @@
 // The keywords, and how a word is looked up among them.
 ghost use Rattle.std.specs.Prelude.{◌≡◌, map};
-ghost use Rattle.std.specs.Str.{str_eq_ignore_ascii_case};
-ghost use Rattle.hc_lex.specs.Keywords.{keyword_of, lookup};
+ghost use Rattle.hc_lex.specs.Keywords.{Rises, keyword_of, lookup, word_cmp};
+
+use std::cmp::Ordering;
 
 /// A word that is no plain name, in letters of either case.
 #[derive(Clone, Copy, Debug, PartialEq, Eq)]
@@ -122,21 +123,26 @@ pub fn keyword_of(word: &[u8]) -> Option<Keyword>
     look_up(&TABLE, word)
 }
 
-fn look_up(mut table: &[(&[u8], Keyword)], word: &[u8]) -> Option<Keyword>
-    ensures { result ≡ lookup (map (λ k. (k.0.now, k.1)) table.entry.now) word.now }
+// The keyword beside a word in a table whose words rise, by halving it.
+fn look_up(table: &[(&[u8], Keyword)], word: &[u8]) -> Option<Keyword>
+    requires { Rises (map (λ k. (k.0.now, k.1)) table.now) }
+    ensures { result ≡ lookup (map (λ k. (k.0.now, k.1)) table.now) word.now }
 {
-    while let [entry, rest @ ..] = table {
-        if is_same_word(entry.0, word) {
-            return Some(entry.1);
-        }
-        table = rest;
+    let (before, rest) = table.split_at(table.len() / 2);
+    let Some((entry, after)) = rest.split_first() else {
+        return None;
+    };
+    match compare_words(word, entry.0) {
+        Ordering::Less => look_up(before, word),
+        Ordering::Equal => Some(entry.1),
+        Ordering::Greater => look_up(after, word),
     }
-    None
 }
 
-// Whether two words differ in the case of ASCII letters alone, if at all.
-fn is_same_word(one: &[u8], other: &[u8]) -> bool
-    ensures { result ≡ str_eq_ignore_ascii_case one.now other.now }
+// How words compare, where ASCII letters of either case are the same.
+fn compare_words(one: &[u8], other: &[u8]) -> Ordering
+    ensures { result ≡ word_cmp one.now other.now }
 {
-    one.eq_ignore_ascii_case(other)
+    let other = other.iter().map(|b| b.to_ascii_lowercase());
+    one.iter().map(|b| b.to_ascii_lowercase()).cmp(other)
 }

@@ -5,20 +5,20 @@ ghost use Rattle.hc_lex.specs.Quotes.{IsOpenQuoted, IsQuoted};
 
 use crate::character::skip_byte;
 
-/// What stands behind the closing quote, of bytes that follow the opening one.
+/// What follows the closing quote, of bytes that follow the opening one.
 pub fn skip_quoted(quote: u8, bytes: &[u8]) -> Option<&[u8]>
     ensures some { IfSome result (λ rest. Skips (IsQuoted quote) (quote ∷ bytes.now) rest.now) }
     ensures none { IfNone result (IsOpenQuoted quote (quote ∷ bytes.now)) }
 {
     let mut rest = bytes;
-    while let Some((first, behind)) = rest.split_first() {
+    while let Some((first, tail)) = rest.split_first() {
         if *first == quote {
-            match skip_byte(quote, behind) {
+            match skip_byte(quote, tail) {
                 Some(after) => rest = after,
-                None => return Some(behind),
+                None => return Some(tail),
             }
         } else {
-            rest = behind;
+            rest = tail;
         }
     }
     None

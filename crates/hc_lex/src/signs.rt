@@ -10,82 +10,82 @@ ghost use Rattle.hc_lex.specs.Tokens.{IsToken};
 use crate::character::skip_byte;
 use crate::token::TokenKind;
 
-/// The longest sign that begins with this character, and what stands behind it.
-pub fn read_sign(first: u8, behind: &[u8]) -> Option<(TokenKind, &[u8])>
+/// The longest sign that begins with this character, and what follows it.
+pub fn read_sign(first: u8, tail: &[u8]) -> Option<(TokenKind, &[u8])>
     requires sign { class_of first ≡ Sign }
-    requires no_blank { BeginsNoBlank (first ∷ behind.now) }
-    ensures some { IfSome result (λ read. Skips (IsToken read.0) (first ∷ behind.now) read.1.now) }
-    ensures none { IfNone result (BeginsStray (first ∷ behind.now)) }
+    requires no_blank { BeginsNoBlank (first ∷ tail.now) }
+    ensures some { IfSome result (λ read. Skips (IsToken read.0) (first ∷ tail.now) read.1.now) }
+    ensures none { IfNone result (BeginsStray (first ∷ tail.now)) }
 {
     match first {
-        b'(' => Some((TokenKind::LeftParen, behind)),
-        b')' => Some((TokenKind::RightParen, behind)),
-        b',' => Some((TokenKind::Comma, behind)),
-        b'.' => Some((TokenKind::Dot, behind)),
-        b'+' => Some((TokenKind::Plus, behind)),
-        b'-' => Some((TokenKind::Minus, behind)),
-        b'*' => Some((TokenKind::Star, behind)),
-        b'/' => Some((TokenKind::Slash, behind)),
-        b'%' => Some((TokenKind::Percent, behind)),
-        b';' => Some((TokenKind::Semicolon, behind)),
-        b'=' => Some(read_equal(behind)),
-        b'<' => Some(read_less(behind)),
-        b'>' => Some(read_greater(behind)),
-        b'!' => read_not(behind),
-        _ => read_bar(behind),
+        b'(' => Some((TokenKind::LeftParen, tail)),
+        b')' => Some((TokenKind::RightParen, tail)),
+        b',' => Some((TokenKind::Comma, tail)),
+        b'.' => Some((TokenKind::Dot, tail)),
+        b'+' => Some((TokenKind::Plus, tail)),
+        b'-' => Some((TokenKind::Minus, tail)),
+        b'*' => Some((TokenKind::Star, tail)),
+        b'/' => Some((TokenKind::Slash, tail)),
+        b'%' => Some((TokenKind::Percent, tail)),
+        b';' => Some((TokenKind::Semicolon, tail)),
+        b'=' => Some(read_equal(tail)),
+        b'<' => Some(read_less(tail)),
+        b'>' => Some(read_greater(tail)),
+        b'!' => read_not(tail),
+        _ => read_bar(tail),
     }
 }
 
-// Behind `=`.
-fn read_equal(behind: &[u8]) -> (TokenKind, &[u8])
-    ensures { Skips (IsToken result.0) (61 ∷ behind.now) result.1.now }
+// After `=`.
+fn read_equal(tail: &[u8]) -> (TokenKind, &[u8])
+    ensures { Skips (IsToken result.0) (61 ∷ tail.now) result.1.now }
 {
-    match skip_byte(b'=', behind) {
+    match skip_byte(b'=', tail) {
         Some(rest) => (TokenKind::DoubleEqual, rest),
-        None => (TokenKind::Equal, behind),
+        None => (TokenKind::Equal, tail),
     }
 }
 
-// Behind `<`.
-fn read_less(behind: &[u8]) -> (TokenKind, &[u8])
-    ensures { Skips (IsToken result.0) (60 ∷ behind.now) result.1.now }
+// After `<`.
+fn read_less(tail: &[u8]) -> (TokenKind, &[u8])
+    ensures { Skips (IsToken result.0) (60 ∷ tail.now) result.1.now }
 {
-    if let Some(rest) = skip_byte(b'=', behind) {
+    if let Some(rest) = skip_byte(b'=', tail) {
         return (TokenKind::LessEqual, rest);
     }
-    match skip_byte(b'>', behind) {
+    match skip_byte(b'>', tail) {
         Some(rest) => (TokenKind::LessGreater, rest),
-        None => (TokenKind::Less, behind),
+        None => (TokenKind::Less, tail),
     }
 }
 
-// Behind `>`.
-fn read_greater(behind: &[u8]) -> (TokenKind, &[u8])
-    ensures { Skips (IsToken result.0) (62 ∷ behind.now) result.1.now }
+// After `>`.
+fn read_greater(tail: &[u8]) -> (TokenKind, &[u8])
+    ensures { Skips (IsToken result.0) (62 ∷ tail.now) result.1.now }
 {
-    match skip_byte(b'=', behind) {
+    match skip_byte(b'=', tail) {
         Some(rest) => (TokenKind::GreaterEqual, rest),
-        None => (TokenKind::Greater, behind),
+        None => (TokenKind::Greater, tail),
     }
 }
 
-// Behind `!`.
-fn read_not(behind: &[u8]) -> Option<(TokenKind, &[u8])>
-    ensures some { IfSome result (λ read. Skips (IsToken read.0) (33 ∷ behind.now) read.1.now) }
-    ensures none { IfNone result (BeginsStray (33 ∷ behind.now)) }
+// After `!`.
+fn read_not(tail: &[u8]) -> Option<(TokenKind, &[u8])>
+    ensures some { IfSome result (λ read. Skips (IsToken read.0) (33 ∷ tail.now) read.1.now) }
+    ensures none { IfNone result (BeginsStray (33 ∷ tail.now)) }
 {
-    match skip_byte(b'=', behind) {
+    match skip_byte(b'=', tail) {
         Some(rest) => Some((TokenKind::NotEqual, rest)),
         None => None,
     }
 }
 
-// Behind `|`.
-fn read_bar(behind: &[u8]) -> Option<(TokenKind, &[u8])>
-    ensures some { IfSome result (λ read. Skips (IsToken read.0) (124 ∷ behind.now) read.1.now) }
-    ensures none { IfNone result (BeginsStray (124 ∷ behind.now)) }
+// After `|`.
+fn read_bar(tail: &[u8]) -> Option<(TokenKind, &[u8])>
+    ensures some { IfSome result (λ read. Skips (IsToken read.0) (124 ∷ tail.now) read.1.now) }
+    ensures none { IfNone result (BeginsStray (124 ∷ tail.now)) }
 {
-    match skip_byte(b'|', behind) {
+    match skip_byte(b'|', tail) {
         Some(rest) => Some((TokenKind::DoubleBar, rest)),
         None => None,
     }

@@ -18,7 +18,7 @@ use std::alloc::Global;
 pub struct Span {
     /// The place of the first byte.
     pub from: u32,
-    /// The place behind the last byte.
+    /// The place after the last byte.
     pub to: u32,
 }
 
@@ -43,9 +43,9 @@ fn cut_all(alloc: Global, bytes: &[u8]) -> Result<Vec<Span>, NoMemory>
     let mut spans = Vec::new(alloc);
     let mut unfinished = None;
     let mut rest = bytes;
-    while let Some((first, behind)) = rest.split_first() {
+    while let Some((first, tail)) = rest.split_first() {
         let from = (bytes.len() - rest.len()) as u32;
-        let (part, after) = read_part(rest, *first, behind);
+        let (part, after) = read_part(rest, *first, tail);
         let to = (bytes.len() - after.len()) as u32;
         match part {
             Part::Blank => {}
@@ -84,20 +84,20 @@ fn with_bytes(span: Option<Span>, from: u32, to: u32) -> Span
     }
 }
 
-// What the first bytes stand in, and what stands behind them.
-fn read_part<'a>(bytes: &'a [u8], first: u8, behind: &'a [u8]) -> (Part, &'a [u8])
-    requires { bytes.now ≡ first ∷ behind.now }
+// What the first bytes belong to, and what follows them.
+fn read_part<'a>(bytes: &'a [u8], first: u8, tail: &'a [u8]) -> (Part, &'a [u8])
+    requires { bytes.now ≡ first ∷ tail.now }
     ensures { Skips (IsPart result.0) bytes.now result.1.now }
 {
     if let Some(rest) = skip_blank(bytes) {
         return (Part::Blank, rest);
     }
     match first {
-        b';' => (Part::Separator, behind),
-        b'\'' | b'"' => match skip_quoted(first, behind) {
+        b';' => (Part::Separator, tail),
+        b'\'' | b'"' => match skip_quoted(first, tail) {
             Some(rest) => (Part::Statement, rest),
             None => (Part::Statement, &[]),
         },
-        _ => (Part::Statement, behind),
+        _ => (Part::Statement, tail),
     }
 }

@@ -5,7 +5,7 @@ use crate::Keyword;
 pub enum TokenKind {
     /// A name without quotes that is no keyword.
     Name,
-    /// A name in `"`, also where a keyword stands in the quotes.
+    /// A name in `"`, also where a keyword is in the quotes.
     QuotedName,
     /// A keyword, in letters of either case.
     Keyword(Keyword),
@@ -55,13 +55,13 @@ pub enum TokenKind {
     Semicolon,
 }
 
-/// A token and the bytes of the text that it stands on: from `from` up to, and without, `to`.
+/// A token and the bytes of the text that it is: from `from` up to, and without, `to`.
 #[derive(Clone, Copy, Debug, PartialEq, Eq)]
 pub struct Token {
     /// What it is.
     pub kind: TokenKind,
     /// The place of its first byte.
     pub from: u32,
-    /// The place behind its last byte.
+    /// The place after its last byte.
     pub to: u32,
 }

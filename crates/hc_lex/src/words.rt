@@ -15,7 +15,7 @@ use crate::token::TokenKind;
 // The least integer without its minus.
 const GREATEST: u64 = 9_223_372_036_854_775_808;
 
-/// The word in front, and what stands behind it.
+/// The word in front, and what follows it.
 pub fn read_word(bytes: &[u8]) -> (TokenKind, &[u8])
     requires letter { Begins (λ b. class_of b ≡ Letter) bytes.now }
     requires no_blob { ¬ BeginsBlob bytes.now }
@@ -28,7 +28,7 @@ pub fn read_word(bytes: &[u8]) -> (TokenKind, &[u8])
     }
 }
 
-/// The number in front, and what stands behind it.
+/// The number in front, and what follows it.
 pub fn read_number(bytes: &[u8]) -> Result<(TokenKind, &[u8]), Flaw>
     requires { GoesOn Number bytes.now }
     ensures ok { IfOk result (λ read. Skips (IsToken read.0) bytes.now read.1.now) }
@@ -78,7 +78,7 @@ fn is_spoiler(bytes: &[u8]) -> bool
     }
 }
 
-/// What stands behind a blob, of bytes that follow its opening quote.
+/// What follows a blob, of bytes that follow its opening quote.
 pub fn skip_blob(bytes: &[u8]) -> Option<&[u8]>
     ensures some { IfSome result (λ rest. ClosesBlob bytes.now rest.now) }
     ensures none { IfNone result (ClosesNoBlob bytes.now) }

@@ -2,21 +2,22 @@
 use Rattle.std.proofs.Common.{◌≡◌, ap, sym, refl, inl, inr, ⊎_elim, arith, lit<, ℕ, pos, ◌<◌, ◌≤◌, ◌^◌, List, [], ◌∷◌, ◌++◌, length, get_or, codes}
 use Rattle.std.specs.Prelude.{decimal}
 use Rattle.std.specs.Fmt.{digits}
-use Rattle.hc_reply.specs.Output.{output_text}
+use Rattle.hc_transcript.specs.Text.{output_text}
+use Rattle.hc_meaning.specs.declared.limits.TheConstants.{MAX_INPUT, MAX_STATEMENTS}
 use Rattle.hc_meaning.specs.declared.statement.Statement.{Statement}
 use Rattle.hc_meaning.specs.declared.statement.Statement.TheVariants.{Insert, Select}
 use Rattle.hc_meaning.specs.Input.{IsNumber, IsScript, IsStatement}
 use Rattle.hc_meaning.specs.Played.{played_alone}
 use Rattle.hc_meaning.specs.RightOutput.{IsRightOutput}
 use Rattle.hc_meaning.specs.Examples.{text_of, HasRightOutput, ARowIsReadBack, ATakenIdIsRefused, AnAbsentIdHasNoRow, DeleteIsNoStatement}
-use Rattle.hc_meaning.proofs.Alone.{right-alone}
-use Rattle.hc_meaning.proofs.OnlyOutput.{only-output}
-use Rattle.hc_meaning.proofs.Scripts.{First, script_first}
-use Rattle.hc_meaning.proofs.SerialOutput.{serial_prints}
-use Rattle.hc_meaning.proofs.Statements.{statement_head}
+use Rattle.hc_meaning.proofs.SerialRun.Alone.{right-alone}
+use Rattle.hc_meaning.proofs.OneRun.OnlyOutput.{only-output}
+use Rattle.hc_meaning.proofs.Language.Scripts.{First, script_first}
+use Rattle.hc_meaning.proofs.SerialRun.SerialOutput.{serial_prints}
+use Rattle.hc_meaning.proofs.Language.Statements.{statement_head}
 
 -- a script's output is that of its serial run
-from_script : (input : List ℕ) (lines : List (List ℕ)) (statements : List Statement) → IsScript input statements → length input ≤ 16777216 → length statements ≤ 65535 → text_of lines ≡ output_text (played_alone statements)
+from_script : (input : List ℕ) (lines : List (List ℕ)) (statements : List Statement) → IsScript input statements → length input ≤ MAX_INPUT → length statements ≤ MAX_STATEMENTS → text_of lines ≡ output_text (played_alone statements)
     → HasRightOutput input lines
 from_script input lines statements is_script within few is_output =
     let right : IsRightOutput input (text_of lines) = record {

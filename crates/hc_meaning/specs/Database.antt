@@ -10,7 +10,7 @@ Db = List (ℤ × ℤ)
 abbrev pub empty_db : Db
 empty_db = []
 
--- Ids ascend, so each stands once. It holds of every db that a run leads to.
+-- Ids ascend, so each is there once. It holds of every db that a run leads to.
 abbrev pub IsDb : Db → Type 0
 IsDb db = IsStrictlySortedBy int_cmp (map (λ row. row.0) db)
 

@@ -3,7 +3,7 @@ use Rattle.std.specs.Prelude.{◌≡◌, ℕ, List, [], ◌∷◌, ◌++◌, cod
 use Rattle.hc_meaning.specs.Input.{BreaksForm}
 use Rattle.hc_meaning.specs.RightOutput.{IsRightOutput}
 
--- lines, each with a line feed behind it
+-- lines, each with a line feed after it
 abbrev pub text_of : List (List ℕ) → List ℕ
 text_of [] = []
 text_of (line ∷ lines) = line ++ 10 ∷ text_of lines

@@ -1,8 +1,8 @@
--- What stands at the front of bytes: a text with what it means, and the rest behind it.
+-- What bytes begin with: a text with what it means, and the rest after it.
 use Rattle.std.specs.Prelude.{◌≡◌, ℕ, ◌≤◌, ℤ, List, [], ◌∷◌, ◌++◌, ⊤}
 use Rattle.hc_meaning.specs.Input.{IsBlank, IsBlankByte, IsNumber}
 
--- a text with this meaning stands at the front, and `rest` behind it
+-- the bytes are a text with this meaning, followed by `rest`
 abbrev pub BeginsWith : {A : Type 0} → (List ℕ → A → Type 0) → List ℕ → A → List ℕ → Type 0
 BeginsWith IsText bytes meaning rest = (text : List ℕ) × IsText text meaning × (bytes ≡ text ++ rest)
 
@@ -18,6 +18,6 @@ IsDigit b = (48 ≤ b) × (b ≤ 57)
 abbrev pub BeginsWithNumber : List ℕ → ℤ → List ℕ → Type 0
 BeginsWithNumber bytes n rest = BeginsWith IsNumber bytes n rest × BeginsOutside IsDigit rest
 
--- all the blanks that stand in front
+-- all the blanks at the front
 abbrev pub BeginsWithBlank : List ℕ → List ℕ → Type 0
 BeginsWithBlank bytes rest = (blank : List ℕ) × IsBlank blank × (bytes ≡ blank ++ rest) × BeginsOutside IsBlankByte rest

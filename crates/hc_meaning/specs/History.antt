@@ -1,6 +1,6 @@
 -- The history: the committed transactions in the order of their commit numbers, as one serial run of them.
 use Rattle.std.specs.Prelude.{◌≡◌, ℕ, ◌+◌, ◌-◌, ◌<◌, List, take, fold, slice_get, Some, Contains}
-use Rattle.hc_reply.specs.declared.reply.Ending.TheVariants.{Commit}
+use Rattle.hc_transcript.specs.declared.reply.Ending.TheVariants.{Commit}
 use Rattle.hc_meaning.specs.Database.{Db, empty_db}
 use Rattle.hc_meaning.specs.Run.{run_all, WritesSome}
 use Rattle.hc_meaning.specs.declared.transaction.Transaction.{Transaction}
@@ -15,7 +15,7 @@ state history k = fold after empty_db (take k history)
 
 -- The commit numbers printed are 1 to n, each once, and the history lists their transactions in that
 -- order: the one at place k, counted from 0, printed `commit k + 1`, and each one that printed a commit
--- number stands at its place.
+-- number is at its place.
 pub record IsHistory (transactions history : List Transaction) : Type 0 where
   pub printed : (k : ℕ) (t : Transaction) → slice_get history k ≡ Some t → (t.ending ≡ Commit (k + 1)) × Contains transactions t
   pub placed : (k : ℕ) (t : Transaction) → Contains transactions t → t.ending ≡ Commit k → (0 < k) × (slice_get history (k - 1) ≡ Some t)

@@ -1,6 +1,7 @@
 -- The language that is read: statements, with blanks before, between and after them.
 use Rattle.std.specs.Prelude.{◌≡◌, ◌⊎◌, ℕ, ◌^◌, ◌<◌, ◌≤◌, ℤ, pos, List, [], ◌∷◌, ◌++◌, length, codes, decimal}
 use Rattle.std.specs.List.{AllByRecursion}
+use Rattle.hc_meaning.specs.declared.limits.TheConstants.{MAX_INPUT, MAX_STATEMENTS}
 use Rattle.hc_meaning.specs.declared.statement.Statement.{Statement}
 use Rattle.hc_meaning.specs.declared.statement.Statement.TheVariants.{Insert, Select}
 use Rattle.hc_meaning.specs.declared.transaction.Script.{Script}
@@ -30,11 +31,10 @@ IsScript text [] = IsBlank text
 IsScript text (statement ∷ statements) = (blank written rest : List ℕ) × IsBlank blank × IsStatement written statement
     × (text ≡ blank ++ written ++ rest) × IsScript rest statements
 
--- The input of a run: the script of connection 0, which is the only one. It has at most 16,777,216 bytes
--- and 65,535 statements.
+-- The input of a run: the script of connection 0, which is the only one, within both limits.
 abbrev pub IsInput : List ℕ → List Script → Type 0
 IsInput input scripts = (statements : List Statement) × IsScript input statements
-    × (length input ≤ 16777216) × (length statements ≤ 65535) × (scripts ≡ record { conn = 0; statements = statements } ∷ [])
+    × (length input ≤ MAX_INPUT) × (length statements ≤ MAX_STATEMENTS) × (scripts ≡ record { conn = 0; statements = statements } ∷ [])
 
 -- the bytes are an input
 abbrev pub IsOfForm : List ℕ → Type 0

@@ -1,6 +1,6 @@
 -- Laws of these definitions, each shown by a function of `laws` with an empty body.
 use Rattle.std.specs.Prelude.{◌≡◌, ℕ, List, [], ◌∷◌}
-use Rattle.hc_reply.specs.declared.reply.Transcript.{Transcript}
+use Rattle.hc_transcript.specs.declared.reply.Transcript.{Transcript}
 use Rattle.hc_meaning.specs.declared.statement.Statement.{Statement}
 use Rattle.hc_meaning.specs.declared.transaction.Script.{Script}
 use Rattle.hc_meaning.specs.declared.transaction.Transaction.{Transaction}

@@ -1,11 +1,11 @@
 -- The run in which the statements of one connection run one after another, each as a transaction of its own.
 use Rattle.std.specs.Prelude.{ℕ, ◌+◌, List, [], ◌∷◌, Some}
-use Rattle.hc_reply.specs.declared.reply.Line.{Line}
-use Rattle.hc_reply.specs.declared.reply.Line.TheVariants.{Ok, Error}
-use Rattle.hc_reply.specs.declared.reply.Ending.{Ending}
-use Rattle.hc_reply.specs.declared.reply.Ending.TheVariants.{Commit, Snapshot, RolledBack}
-use Rattle.hc_reply.specs.declared.reply.Reply.{Reply}
-use Rattle.hc_reply.specs.declared.reply.Transcript.{Transcript}
+use Rattle.hc_transcript.specs.declared.reply.Line.{Line}
+use Rattle.hc_transcript.specs.declared.reply.Line.TheVariants.{Ok, Error}
+use Rattle.hc_transcript.specs.declared.reply.Ending.{Ending}
+use Rattle.hc_transcript.specs.declared.reply.Ending.TheVariants.{Commit, Snapshot, RolledBack}
+use Rattle.hc_transcript.specs.declared.reply.Reply.{Reply}
+use Rattle.hc_transcript.specs.declared.reply.Transcript.{Transcript}
 use Rattle.hc_meaning.specs.declared.statement.Statement.{Statement}
 use Rattle.hc_meaning.specs.declared.statement.Statement.TheVariants.{Insert, Select}
 use Rattle.hc_meaning.specs.Database.{Db, empty_db}

@@ -2,9 +2,9 @@
 -- are those of SQLite's language pages (lang_insert.html, lang_select.html), cut down to two forms.
 use Rattle.std.specs.Prelude.{◌≡◌, ◌≢◌, ℤ, List, [], ◌∷◌, length, map, if◌then◌else◌, is_some, codes}
 use Rattle.hc_value.specs.declared.value.Value.TheVariants.{Int}
-use Rattle.hc_reply.specs.declared.reply.Line.TheVariants.{Ok, Error}
-use Rattle.hc_reply.specs.declared.refusal.Refusal.TheVariants.{Primary}
-use Rattle.hc_reply.specs.declared.reply.Reply.{Reply}
+use Rattle.hc_transcript.specs.declared.reply.Line.TheVariants.{Ok, Error}
+use Rattle.hc_transcript.specs.declared.refusal.Refusal.TheVariants.{Primary}
+use Rattle.hc_transcript.specs.declared.reply.Reply.{Reply}
 use Rattle.hc_meaning.specs.declared.answer.Answer.{Answer}
 use Rattle.hc_meaning.specs.declared.answer.Outcome.{Outcome}
 use Rattle.hc_meaning.specs.declared.answer.Ran.{Ran}

@@ -1,21 +1,15 @@
 -- A connection's statements with their replies, cut into transactions.
 use Rattle.std.specs.Prelude.{ℕ, ◌+◌, Bool, true, false, List, [], ◌∷◌, ◌++◌, ◌==◌, if◌then◌else◌, Option, None, Some, option_map, option_and_then, filter}
-use Rattle.hc_reply.specs.declared.reply.Line.{Line}
-use Rattle.hc_reply.specs.declared.reply.Line.TheVariants.{Ok, Error}
-use Rattle.hc_reply.specs.declared.reply.Ending.{Ending}
-use Rattle.hc_reply.specs.declared.reply.Ending.TheVariants.{Commit, Snapshot, RolledBack}
-use Rattle.hc_reply.specs.declared.reply.Reply.{Reply}
-use Rattle.hc_reply.specs.declared.reply.Transcript.{Transcript}
+use Rattle.hc_transcript.specs.declared.reply.Line.{Line}
+use Rattle.hc_transcript.specs.declared.reply.Line.TheVariants.{Ok, Error}
+use Rattle.hc_transcript.specs.declared.reply.Ending.{Ending}
+use Rattle.hc_transcript.specs.declared.reply.Ending.TheVariants.{Commit, Snapshot, RolledBack}
+use Rattle.hc_transcript.specs.declared.reply.Reply.{Reply}
+use Rattle.hc_transcript.specs.declared.reply.Transcript.{Transcript}
 use Rattle.hc_meaning.specs.declared.statement.Statement.{Statement}
 use Rattle.hc_meaning.specs.declared.transaction.Script.{Script}
 use Rattle.hc_meaning.specs.declared.transaction.Transaction.{Transaction}
 use Rattle.hc_meaning.specs.Run.{answer_of}
-
--- the number that an ending prints
-abbrev pub number : Ending → ℕ
-number (Commit k) = k
-number (Snapshot s) = s
-number (RolledBack s) = s
 
 -- Which endings may follow a statement that is a transaction of its own: committed or with nothing to
 -- commit where it was carried out, rolled back where it was refused.

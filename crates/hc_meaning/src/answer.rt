@@ -1,4 +1,4 @@
-use hc_reply::{Line, Row};
+use hc_transcript::{Line, Row};
 use sqlite_items::Items;
 
 /// The rows `(id, v)` of the table, in ascending order of `id`.

@@ -6,7 +6,7 @@ pub fn a_script_has_one_reading()
     ensures { HasOneReading }
 {}
 
-/// A statement keeps the ids of a database in ascending order, so each stands once.
+/// A statement keeps the ids of a database in ascending order, so each is there once.
 pub fn a_run_keeps_ids_in_order()
     ensures { RunKeepsIdsInOrder }
 {}

@@ -5,21 +5,21 @@
 //! `Run`), the cut of a connection's replies into transactions (`Transactions`) and the history of
 //! the commits (`History`). These definitions know lists and a fold, and nothing of the program.
 //!
-//! Beside them stands `plain`, a slow program that computes the functions among them and judges runs
-//! of any number of connections, so that the definitions can be tried on small inputs. Only tests use
-//! it.
+//! Beside them is the reference model in `reference`, a slow program that computes the functions among
+//! them and judges runs of any number of connections, so that the definitions can be tried on small
+//! inputs. Only tests use it.
 //! `laws` states what follows from the definitions alone, and `examples` what they say of given bytes.
 #![tactic(auto)]
 
 mod answer;
 pub mod examples;
 pub mod laws;
-pub mod plain;
+mod limits;
+pub mod reference;
 mod statement;
-#[cfg(test)]
-mod tests;
 mod transaction;
 
 pub use answer::{Answer, Db, Outcome, Ran};
+pub use limits::{MAX_INPUT, MAX_STATEMENTS};
 pub use statement::Statement;
 pub use transaction::{Script, Transaction};

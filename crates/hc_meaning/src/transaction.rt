@@ -1,5 +1,5 @@
 use crate::{Answer, Statement};
-use hc_reply::Ending;
+use hc_transcript::Ending;
 use sqlite_items::Items;
 
 /// The statements of one connection.

@@ -3,7 +3,7 @@ use Rattle.std.proofs.Common.{◌≡◌, ◌∙◌, ap, ℕ, ◌==◌, List, [],
 use Rattle.std.proofs.lemmas.Bool.{eqb-true, eq-eqb}
 use Rattle.std.specs.Prelude.{if◌then◌else◌}
 use Rattle.std.specs.List.{flat_map}
-use Rattle.hc_ast.specs.Words.{doubled, quoted}
+use Rattle.hc_text.specs.Quotes.{doubled, quoted}
 use Rattle.hc_parse.specs.Literals.{also, undoubled, unquoted}
 
 -- an option made of another has its value's
@@ -17,7 +17,7 @@ some_same x y e = cc
 
 -- a text within quotes, behind the opening one
 abbrev pub closed_text : ℕ → List ℕ → List ℕ
-closed_text quote text = flat_map (doubled quote) text ++ quote ∷ []
+closed_text quote text = doubled quote text ++ quote ∷ []
 
 -- a byte that is no quote stands for itself, before another byte
 other_byte : (quote b : ℕ) (tail : List ℕ) → (b == quote) ≡ false → (c : ℕ) → (rest : List ℕ) → tail ≡ c ∷ rest → undoubled quote (b ∷ tail) ≡ also (λ inner. b ∷ inner) (undoubled quote tail)
@@ -38,12 +38,12 @@ has_byte (x ∷ xs) y = record { head = x; rest = xs ++ y ∷ []; is = refl }
 -- one byte more was doubled
 by_byte : (quote b : ℕ) (text : List ℕ) (test : Bool) → (b == quote) ≡ test → undoubled quote (closed_text quote text) ≡ Some text → undoubled quote (closed_text quote (b ∷ text)) ≡ Some (b ∷ text)
 by_byte quote b text true is ih =
-    ap (λ t. undoubled quote (((if t then b ∷ b ∷ [] else b ∷ []) ++ flat_map (doubled quote) text) ++ quote ∷ [])) is
+    ap (λ t. undoubled quote (((if t then b ∷ b ∷ [] else b ∷ []) ++ doubled quote text) ++ quote ∷ [])) is
     ∙ ap (λ t. if t then (if t then also (λ inner. b ∷ inner) (undoubled quote (closed_text quote text)) else None) else also (λ inner. b ∷ inner) (undoubled quote (b ∷ closed_text quote text))) is
     ∙ ap (also (λ inner. b ∷ inner)) ih
 by_byte quote b text false is ih =
-    let h = has_byte (flat_map (doubled quote) text) quote in
-    ap (λ t. undoubled quote (((if t then b ∷ b ∷ [] else b ∷ []) ++ flat_map (doubled quote) text) ++ quote ∷ [])) is
+    let h = has_byte (doubled quote text) quote in
+    ap (λ t. undoubled quote (((if t then b ∷ b ∷ [] else b ∷ []) ++ doubled quote text) ++ quote ∷ [])) is
     ∙ other_byte quote b (closed_text quote text) is h.head h.rest h.is
     ∙ ap (also (λ inner. b ∷ inner)) ih
 
@@ -54,7 +54,6 @@ undoubled_is quote (b ∷ text) = by_byte quote b text (b == quote) refl (undoub
 
 -- what was quoted is found again
 pub unquoted_is : (quote : ℕ) (text : List ℕ) → unquoted quote (quoted quote text) ≡ Some text
-unfolding quoted
 unquoted_is quote text = ap (λ t. if t then undoubled quote (closed_text quote text) else None) (eq-eqb quote quote refl) ∙ undoubled_is quote text
 
 -- what is found within quotes was doubled there
@@ -74,7 +73,7 @@ a_quote quote b c rest ih first true second text e =
     let same : c ≡ b = eqb-true c quote second ∙ sym (eqb-true b quote first) in
     ap (λ (x : ℕ). b ∷ x ∷ rest) same
     ∙ ap (λ (l : List ℕ). b ∷ b ∷ l) (ih h.0 h.1)
-    ∙ ap (λ t. ((if t then b ∷ b ∷ [] else b ∷ []) ++ flat_map (doubled quote) h.0) ++ quote ∷ []) (sym first)
+    ∙ ap (λ t. ((if t then b ∷ b ∷ [] else b ∷ []) ++ doubled quote h.0) ++ quote ∷ []) (sym first)
     ∙ ap (closed_text quote) (sym h.2)
 a_quote quote b c rest ih first false second text e = absurd (cc)
 
@@ -85,7 +84,7 @@ two_bytes quote b c rest ih next true is text e = a_quote quote b c rest ih is (
 two_bytes quote b c rest ih next false is text e =
     let h = also_some (λ (inner : List ℕ). b ∷ inner) (undoubled quote (c ∷ rest)) text e in
     ap (λ (l : List ℕ). b ∷ l) (next h.0 h.1)
-    ∙ ap (λ t. ((if t then b ∷ b ∷ [] else b ∷ []) ++ flat_map (doubled quote) h.0) ++ quote ∷ []) (sym is)
+    ∙ ap (λ t. ((if t then b ∷ b ∷ [] else b ∷ []) ++ doubled quote h.0) ++ quote ∷ []) (sym is)
     ∙ ap (closed_text quote) (sym h.2)
 
 -- what is found before the closing quote was doubled there
@@ -96,7 +95,6 @@ undoubled_has quote (b ∷ c ∷ rest) text e = two_bytes quote b c rest (undoub
 
 -- what begins with a quote was quoted
 first_quote : (quote b : ℕ) (rest : List ℕ) (test : Bool) → (b == quote) ≡ test → (text : List ℕ) → (if test then undoubled quote rest else None) ≡ Some text → b ∷ rest ≡ quoted quote text
-unfolding quoted
 first_quote quote b rest true is text e = ap (λ (x : ℕ). x ∷ rest) (eqb-true b quote is) ∙ ap (λ (l : List ℕ). quote ∷ l) (undoubled_has quote rest text e)
 first_quote quote b rest false is text e = absurd (cc)
 

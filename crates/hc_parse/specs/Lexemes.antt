@@ -7,7 +7,7 @@ use Rattle.hc_lex.specs.declared.token.TokenKind.TheVariants as kind
 use Rattle.hc_lex.specs.declared.keyword.Keyword.TheVariants as word
 use Rattle.hc_value.specs.declared.value.Value.{Value}
 use Rattle.hc_value.specs.declared.value.Value.TheVariants.{Null, Int, Text, Blob}
-use Rattle.hc_ast.specs.Words.{quoted}
+use Rattle.hc_text.specs.Quotes.{quoted}
 
 pub record Lexeme : Type 0 where
   pub kind : TokenKind

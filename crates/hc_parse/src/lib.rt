@@ -35,8 +35,6 @@ mod skips;
 mod statement;
 mod stop;
 mod tables;
-#[cfg(test)]
-mod tests;
 mod transactions;
 
 pub use fault::ParseFault;

@@ -17,7 +17,8 @@ use crate::rest::Rest;
 use crate::statement::read_whole;
 use crate::stop::{Reason, Stop};
 use hc_ast::Stmt;
-use hc_lex::{Token, tokens_lie_at_characters, tokens_lie_in_order};
+use hc_lex::Token;
+use hc_lex::laws::{tokens_lie_at_characters, tokens_lie_in_order};
 use hc_value::NoMemory;
 use std::alloc::Global;
 

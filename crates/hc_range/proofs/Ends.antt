@@ -6,27 +6,27 @@ use Rattle.hc_range.specs.Ranges.{is_under, is_end_below, later, InRange, IsNonE
 use Rattle.hc_range.specs.declared.range.Range.{Range}
 use Rattle.hc_range.proofs.ByteOrder.{below_flip, below_trans, below_irrefl, at_most_below, below_at_most, at_most_trans}
 
--- what stands below a key that is under an end is under it too
+-- what is below a key that is under an end is under it too
 pub under_down : (key other : List ℕ) (end : Option (List ℕ)) → is_below other key ≡ false → is_under other end ≡ true → is_under key end ≡ true
 under_down key other None low h = refl
 under_down key other (Some end) low h = at_most_below key other end low h
 
--- a key under an end that stands below another key stands below that key
+-- a key under an end that is below another key is below that key
 pub under_end : (key other : List ℕ) (end : Option (List ℕ)) → is_under key end ≡ true → is_end_below end other ≡ true → is_below key other ≡ true
 under_end key other None h g = absurd (false≢true g)
 under_end key other (Some end) h g = below_trans key end other h g
 
--- a key below another one that an end does not stand below is under the end
+-- a key below another one that an end is not below is under the end
 pub under_since_not_below : (key other : List ℕ) (end : Option (List ℕ)) → is_end_below end other ≡ false → is_below key other ≡ true → is_under key end ≡ true
 under_since_not_below key other None h g = refl
 under_since_not_below key other (Some end) h g = below_at_most key other end g h
 
--- a key that is not under an end is at or above all that the end does not stand below
+-- a key that is not under an end is at or above all that the end is not below
 pub above_since_not_under : (key other : List ℕ) (end : Option (List ℕ)) → is_under key end ≡ false → is_end_below end other ≡ false → is_below key other ≡ false
 above_since_not_under key other None h g = absurd (true≢false h)
 above_since_not_under key other (Some end) h g = at_most_trans other end key g h
 
--- an end stands below what lies above a key that it stands below
+-- an end is below what lies above a key that it is below
 pub end_below_more : (end : Option (List ℕ)) (key other : List ℕ) → is_end_below end key ≡ true → is_below other key ≡ false → is_end_below end other ≡ true
 end_below_more None key other h g = absurd (false≢true h)
 end_below_more (Some end) key other h g = below_at_most end key other h g
@@ -84,7 +84,7 @@ pub lower_cases : (a b key : List ℕ) → is_below key (lower a b) ≡ false �
 lower_cases a b key = cond_both (is_below b a) b a
     (λ (k : List ℕ). is_below key k ≡ false → (is_below key a ≡ false) ⊎ (is_below key b ≡ false)) (λ _ h. inr h) (λ _ h. inl h)
 
--- an end that stands below two keys stands below the lower of them
+-- an end that is below two keys is below the lower of them
 pub end_below_lower : (end : Option (List ℕ)) (a b : List ℕ) → is_end_below end a ≡ true → is_end_below end b ≡ true → is_end_below end (lower a b) ≡ true
 end_below_lower end a b h g = cond_both (is_below b a) b a (λ (k : List ℕ). is_end_below end k ≡ true) (λ _. g) (λ _. h)
 
@@ -106,7 +106,7 @@ under_later_cases key (Some a) None = λ h. inr refl
 under_later_cases key (Some a) (Some b) = cond_both (is_below a b) b a
     (λ (k : List ℕ). is_below key k ≡ true → (is_below key a ≡ true) ⊎ (is_below key b ≡ true)) (λ _ h. inr h) (λ _ h. inl h)
 
--- the later of two ends that stand below a key stands below it
+-- the later of two ends that are below a key is below it
 pub later_end_below : (a b : Option (List ℕ)) (key : List ℕ) → is_end_below a key ≡ true → is_end_below b key ≡ true → is_end_below (later a b) key ≡ true
 later_end_below None b key h g = absurd (false≢true h)
 later_end_below (Some a) None key h g = absurd (false≢true g)

@@ -1,6 +1,5 @@
 pub mod Overlap
 pub mod ByteOrder
-pub mod ByteStrings
 pub mod Ends
 pub mod Normal
 pub mod Searched

@@ -25,7 +25,7 @@ Each-take P (suc i) [] le h = tt
 Each-take P (suc i) (range ∷ ranges) le h =
     (h 0 range (omega arith) (omega arith), Each-take P i ranges (omega arith) (λ k d low high. h (suc k) d (omega arith) (omega arith)))
 
--- what holds at each place from i on holds of each range behind the first i
+-- what holds at each place from i on holds of each range after the first i
 pub Each-drop : (P : Range → Type 0) (i : ℕ) (ranges : List Range) → AllWithin P ranges i (length ranges) → Each P (drop i ranges)
 Each-drop P zero [] h = tt
 Each-drop P zero (range ∷ ranges) h =
@@ -102,7 +102,7 @@ each_at range [] h i d lt = absurd (omega arith)
 each_at range (other ∷ ranges) h zero d lt = h.0
 each_at range (other ∷ ranges) h (suc i) d lt = each_at range ranges h.1 i d (omega arith)
 
--- of two ranges the one that stands earlier ends below where the other begins
+-- of two ranges the one that is earlier ends below where the other begins
 pub ends_below_at : (ranges : List Range) → IsNormal ranges → (i j : ℕ) (d : Range) → i < j → j < length ranges → EndsBelow (get_or ranges i d) (get_or ranges j d)
 ends_below_at [] h i j d lt within = absurd (omega arith)
 ends_below_at (range ∷ ranges) h i zero d lt within = absurd (omega arith)

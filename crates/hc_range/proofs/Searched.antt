@@ -12,7 +12,7 @@ use Rattle.hc_range.proofs.Ends.{under_end, end_below_more, begins_below, under_
 use Rattle.hc_range.proofs.Normal.{Each, Each-take, holds_at, ends_below_at, none_later, InAny-cases, IsNormal-drop}
 use Rattle.hc_range.proofs.Unique.{end_is_out}
 
--- where a test holds of a range wherever it holds of one that stands later, it holds of a front of the list
+-- where a test holds of a range wherever it holds of one that is later, it holds of a front of the list
 partitioned : (p : Range → Bool) (ranges : List Range) → IsNormal ranges
     → ((a b : Range) → IsNonEmpty a → IsNonEmpty b → EndsBelow a b → p b ≡ true → p a ≡ true) → IsPartitionedBy p ranges
 partitioned p ranges normal f i j d le within h =
@@ -28,12 +28,12 @@ before_partitioned key ranges normal =
     partitioned (λ range. is_end_below range.hi key) ranges normal
     (λ a b one two below h. end_below_more a.hi b.lo key below (below_flip b.lo key (under_end b.lo key b.hi two h)))
 
--- where an end does not stand below a range, it stands below none that comes earlier
+-- where an end is not below a range, it is below none that comes earlier
 begun_at : (end : Option (List ℕ)) (a b : Range) → IsNonEmpty a → EndsBelow a b → is_end_below end b.lo ≡ false → is_end_below end a.lo ≡ false
 begun_at end a b holds below h =
     false_from_ne_true _ (λ g. true≢false (sym (end_below_more end a.lo b.lo g (below_flip a.lo b.lo (begins_below a b holds below))) ∙ h))
 
--- in a normal list the ranges that an end does not stand below are a front
+-- in a normal list the ranges that an end is not below are a front
 pub begun_partitioned : (end : Option (List ℕ)) (ranges : List Range) → IsNormal ranges → IsPartitionedBy (λ range. not (is_end_below end range.lo)) ranges
 begun_partitioned end ranges normal =
     partitioned (λ range. not (is_end_below end range.lo)) ranges normal
@@ -134,7 +134,7 @@ outside_since_ends ranges range part normal contained first ends includes = go r
         end_lies_outside ranges range end normal is contained.0 contained.1 contained.2
         (includes end (below_flip part.lo end below, not-false _ h))
 
--- where the key stands below the range that comes next, none holds it
+-- where the key is below the range that comes next, none holds it
 pub none_holds_before : (key : List ℕ) (n : ℕ) (ranges : List Range) (range : Range) → IsNormal ranges → n < length ranges
     → AllWithin (λ other. is_under key other.hi ≡ false) ranges 0 n → AllWithin (λ other. is_under key other.hi ≡ true) ranges n (length ranges)
     → range ≡ get_or ranges n range → is_below key range.lo ≡ true → InAny ranges key → ⊥

@@ -49,7 +49,7 @@ InAny-put range front back key = (out, elim_in)
       | inr after ↦ InAny-right front (range ∷ back) key (inr after)
     ]
 
--- where a stretch ends below what stands behind it, its last range does
+-- where a stretch ends below what follows it, its last range does
 last_ends_below : (first : Range) (more back : List Range) → Apart (first ∷ more) back → EndsBelowEach (last first more) back
 last_ends_below first [] back h = h.0
 last_ends_below first (other ∷ more) back h = last_ends_below other more back h.1
@@ -71,14 +71,14 @@ pub IsNormal-united : (range first : Range) (front more back : List Range) → I
 IsNormal-united range first front more back normal holds before after =
     let apart = Apart-from_normal front ((first ∷ more) ++ back) normal in
     let stretch = IsNormal-back front ((first ∷ more) ++ back) normal in
-    let behind = Apart-from_normal (first ∷ more) back stretch in
+    let past = Apart-from_normal (first ∷ more) back stretch in
     IsNormal-append front (united range first (last first more) ∷ back) (IsNormal-front front ((first ∷ more) ++ back) normal) (
       under_down (lower range.lo first.lo) range.lo (later range.hi (last first more).hi) (lower_left range.lo first.lo)
           (under_later_left range.lo range.hi (last first more).hi holds),
       EndsBelowEach-from (united range first (last first more)) back
           (Each-both (λ other. EndsBelow range other) (λ other. EndsBelow (last first more) other) (λ other. EndsBelow (united range first (last first more)) other)
           (λ other one two. later_end_below range.hi (last first more).hi other.lo one two) back after
-          (each_from (last first more) back (last_ends_below first more back behind))),
+          (each_from (last first more) back (last_ends_below first more back past))),
       IsNormal-back (first ∷ more) back stretch,
     )
     (Each-both (λ other. EndsBelow other range) (λ other. EndsBelowEach other ((first ∷ more) ++ back))
@@ -151,7 +151,7 @@ InAny-united range first front more back key normal touches_first touches_last =
 
 -- ---- a list cut at two places
 
--- the first n of a list, of which there is one at least: the first, the others, and where the last one stands
+-- the first n of a list, of which there is one at least: the first, the others, and where the last one is
 pub record Stretch (ranges : List Range) (n : ℕ) (d : Range) : Type 0 where
   pub first : Range
   pub more : List Range
@@ -180,14 +180,14 @@ stretch_of (first ∷ ranges) (suc n) d some le =
     }
 
 -- where a range belongs in a list: `from` ranges lie before it and do not touch it, and `count` of the
--- others do not lie behind it
+-- others are not after it
 pub record Cut (ranges : List Range) (range : Range) (from count : ℕ) : Type 0 where
   pub from_within : from ≤ length ranges
   pub count_within : count ≤ length (drop from ranges)
   pub before : AllWithin (λ other. is_end_below other.hi range.lo ≡ true) ranges 0 from
   pub touching : AllWithin (λ other. is_end_below other.hi range.lo ≡ false) ranges from (length ranges)
   pub begun : AllWithin (λ other. is_end_below range.hi other.lo ≡ false) (drop from ranges) 0 count
-  pub behind : AllWithin (λ other. is_end_below range.hi other.lo ≡ true) (drop from ranges) count (length (drop from ranges))
+  pub past : AllWithin (λ other. is_end_below range.hi other.lo ≡ true) (drop from ranges) count (length (drop from ranges))
 
 -- a cut from what two searches answer, the second over the rest of the list
 pub Cut-from_searches : (ranges one two : List Range) (range : Range) (lo : List ℕ) (from count : ℕ)
@@ -199,7 +199,7 @@ pub Cut-from_searches : (ranges one two : List Range) (range : Range) (lo : List
     → AllWithin (λ other. is_end_below range.hi other.lo ≡ false) (take (length two - from) (drop from two)) 0 count
     → AllWithin (λ other. is_end_below range.hi other.lo ≡ true) (take (length two - from) (drop from two)) count (length (take (length two - from) (drop from two)))
     → Cut ranges range from count
-Cut-from_searches ranges one two range lo from count is_one is_two is_lo within before touching count_within begun behind =
+Cut-from_searches ranges one two range lo from count is_one is_two is_lo within before touching count_within begun past =
     let rest : take (length two - from) (drop from two) ≡ drop from ranges = take_rest two from ∙ ap (λ (xs : List Range). drop from xs) is_two in
     record {
       from_within = subst (λ (xs : List Range). from ≤ length xs) is_one within;
@@ -209,7 +209,7 @@ Cut-from_searches ranges one two range lo from count is_one is_two is_lo within 
       touching = subst (λ (k : List ℕ). AllWithin (λ other. is_end_below other.hi k ≡ false) ranges from (length ranges)) is_lo
           (subst (λ (xs : List Range). AllWithin (λ other. is_end_below other.hi lo ≡ false) xs from (length xs)) is_one touching);
       begun = subst (λ (xs : List Range). AllWithin (λ other. is_end_below range.hi other.lo ≡ false) xs 0 count) rest begun;
-      behind = subst (λ (xs : List Range). AllWithin (λ other. is_end_below range.hi other.lo ≡ true) xs count (length xs)) rest behind;
+      past = subst (λ (xs : List Range). AllWithin (λ other. is_end_below range.hi other.lo ≡ true) xs count (length xs)) rest past;
     }
 
 -- where no range touches the new one, it is inserted
@@ -218,7 +218,7 @@ pub IsNormal-inserted : (ranges : List Range) (range : Range) (from : ℕ) → C
 IsNormal-inserted ranges range from cut normal holds =
     IsNormal-put range (take from ranges) (drop from ranges) (subst IsNormal (sym (take-append-drop from ranges)) normal) holds
     (Each-take (λ other. EndsBelow other range) from ranges cut.from_within cut.before)
-    (Each-drop (λ other. EndsBelow range other) 0 (drop from ranges) cut.behind)
+    (Each-drop (λ other. EndsBelow range other) 0 (drop from ranges) cut.past)
 
 -- an inserted range adds its own keys to those of the list
 pub InAny-inserted : (ranges : List Range) (range : Range) (from : ℕ) (key : List ℕ)
@@ -231,7 +231,7 @@ InAny-inserted ranges range from key =
 abbrev pub merged : List Range → Range → ℕ → ℕ → List Range
 merged ranges range from to = take from ranges ++ united range (get_or ranges from range) (get_or ranges (to - 1) range) ∷ drop to ranges
 
--- the merged list is the front, the united range and what stands behind the stretch
+-- the merged list is the front, the united range and what follows the stretch
 merged_is : (ranges : List Range) (range : Range) (from count : ℕ) → 0 < count → (stretch : Stretch (drop from ranges) count range)
     → merged ranges range from (from + count) ≡ take from ranges ++ united range stretch.first (last stretch.first stretch.more) ∷ drop count (drop from ranges)
 merged_is ranges range from count some stretch =
@@ -240,7 +240,7 @@ merged_is ranges range from count some stretch =
     ap (λ (i : ℕ). get_or ranges i range) (omega arith) ∙ sym (get_or-drop from ranges (count - 1) range) ∙ stretch.at_end in
     λ i. take from ranges ++ united range (at_start i) (at_end i) ∷ sym (drop-drop count from ranges) i
 
--- a list is its front, the stretch, and what stands behind it
+-- a list is its front, the stretch, and what follows it
 parts : (ranges : List Range) (range : Range) (from count : ℕ) (stretch : Stretch (drop from ranges) count range)
     → ranges ≡ take from ranges ++ ((stretch.first ∷ stretch.more) ++ drop count (drop from ranges))
 parts ranges range from count stretch =
@@ -257,7 +257,7 @@ IsNormal-merged ranges range from count some cut normal holds =
     (IsNormal-united range stretch.first (take from ranges) stretch.more (drop count (drop from ranges))
     (subst IsNormal (parts ranges range from count stretch) normal) holds
     (Each-take (λ other. EndsBelow other range) from ranges cut.from_within cut.before)
-    (Each-drop (λ other. EndsBelow range other) count (drop from ranges) cut.behind))
+    (Each-drop (λ other. EndsBelow range other) count (drop from ranges) cut.past))
 
 -- what holds of each of a list holds of the first
 first_of_each : (P : Range → Type 0) (first : Range) (more : List Range) (n : ℕ) (ranges : List Range) → take n ranges ≡ first ∷ more → Each P ranges → P first

@@ -3,12 +3,12 @@ use Rattle.std.specs.Prelude.{ℕ, Bool, true, false, not, List, [], ◌∷◌, 
 use Rattle.hc_range.specs.Order.{is_below, higher, lower, IsAtMost}
 use Rattle.hc_range.specs.declared.range.Range.{Range}
 
--- whether a key stands below an upper end; where there is no end, each key does
+-- whether a key is below an upper end; where there is no end, each key is
 abbrev pub is_under : List ℕ → Option (List ℕ) → Bool
 is_under key None = true
 is_under key (Some end) = is_below key end
 
--- whether an upper end stands below a key; where there is no end, it stands below none
+-- whether an upper end is below a key; where there is no end, it is below none
 abbrev pub is_end_below : Option (List ℕ) → List ℕ → Bool
 is_end_below None key = false
 is_end_below (Some end) key = is_below end key

@@ -5,7 +5,7 @@ use std::marker::Model;
 /// How many bytes a stored key has at most.
 pub const LONGEST_KEY: usize = 463;
 
-/// A key of at most 463 bytes, kept in place, so that it is copied without taking memory. A contract
+/// A key of at most `LONGEST_KEY` bytes, kept in place, so that it is copied without taking memory. A contract
 /// sees the list of its bytes.
 #[derive(Debug, Clone, Copy, PartialEq, Eq)]
 pub struct KeyBuf {
@@ -35,8 +35,8 @@ impl Model for KeyBuf {
 
 // A key's bytes, and then zeros.
 fn padded(key: &[u8]) -> [u8; LONGEST_KEY]
-    requires { length key.now ≤ 463 }
-    ensures { result ≡ key.now ++ replicate (463 - length key.now) 0 }
+    requires { length key.now ≤ LONGEST_KEY }
+    ensures { result ≡ key.now ++ replicate (LONGEST_KEY - length key.now) 0 }
 {
     let mut bytes = [0; LONGEST_KEY];
     bytes[..key.len()].copy_from_slice(key);
@@ -46,7 +46,7 @@ fn padded(key: &[u8]) -> [u8; LONGEST_KEY]
 impl KeyBuf {
     /// A copy of a key.
     pub fn from_slice(key: &[u8]) -> KeyBuf
-        requires { length key.now ≤ 463 }
+        requires { length key.now ≤ LONGEST_KEY }
         ensures { result ≡ key.now }
     {
         KeyBuf {
@@ -58,7 +58,7 @@ impl KeyBuf {
     /// The key's bytes.
     pub fn as_slice(&self) -> &[u8]
         ensures bytes { result.now ≡ self.now }
-        ensures short { length self.now ≤ 463 }
+        ensures short { length self.now ≤ LONGEST_KEY }
     {
         &self.bytes[..self.len as usize]
     }

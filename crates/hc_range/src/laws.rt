@@ -31,7 +31,7 @@ pub fn a_proper_prefix_is_below()
     ensures { ProperPrefixIsBelow }
 {}
 
-/// A key with a byte 0 behind it is the next key: what comes before it is at most the key.
+/// A key with a byte 0 after it is the next key: what comes before it is at most the key.
 pub fn a_successor_is_next()
     ensures { SuccessorIsNext }
 {}

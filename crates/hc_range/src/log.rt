@@ -12,9 +12,9 @@ use std::marker::Model;
 /// normal form of the set: ascending, none empty, no two that overlap or touch.
 ///
 /// [`ReadLog::covers`] and [`ReadLog::includes`] make one binary search. So does [`ReadLog::add`] where
-/// the range lies behind all others, and then it pushes: it moves no other range, and takes memory for
+/// the range is after all others, and then it pushes: it moves no other range, and takes memory for
 /// the two ends, and for the list where its room is used up. Elsewhere it searches a second time, among
-/// the ranges behind the place, and these move up or down.
+/// the ranges after the place, and these move up or down.
 #[derive(Debug, Drop)]
 pub struct ReadLog {
     ranges: Vec<Range>,
@@ -70,7 +70,7 @@ impl ReadLog {
         }
     }
 
-    /// Covers the keys of a range besides. After want of memory the log is as before.
+    /// Covers the keys of a range too. When memory runs out the log is as before.
     pub fn add(&mut self, range: &Range) -> Result<(), NoMemory>
         ensures added { OnOk result ((key : List ℕ) →
             InAny self.new key ↔ (InAny self.old key ⊎ InRange range.now key)) }
@@ -83,7 +83,7 @@ impl ReadLog {
         unite(&mut self.ranges, copy)
     }
 
-    /// Covers the keys of another log besides. After want of memory the log is as before: room for all
+    /// Covers the keys of another log too. When memory runs out the log is as before: room for all
     /// of the other log's ranges is reserved first, and then they move in one after another.
     pub fn join(&mut self, other: ReadLog) -> Result<(), NoMemory>
         ensures joined { OnOk result ((key : List ℕ) →

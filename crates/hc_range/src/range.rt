@@ -15,23 +15,23 @@ pub struct Range {
     pub hi: Option<Bytes>,
 }
 
-// Whether a key stands below an upper end.
+// Whether a key is below an upper end.
 pub(crate) fn is_under(key: &[u8], end: &Option<Bytes>) -> bool
     ensures { result ≡ is_under key.now end.now }
 {
     match end {
-        Some(end) => is_below(key, end.as_slice()),
         None => true,
+        Some(end) => is_below(key, end.as_slice()),
     }
 }
 
-// Whether an upper end stands below a key.
+// Whether an upper end is below a key.
 pub(crate) fn is_end_below(end: &Option<Bytes>, key: &[u8]) -> bool
     ensures { result ≡ is_end_below end.now key.now }
 {
     match end {
-        Some(end) => is_below(end.as_slice(), key),
         None => false,
+        Some(end) => is_below(end.as_slice(), key),
     }
 }
 
@@ -40,8 +40,8 @@ pub(crate) fn is_end_at_most(end: &Option<Bytes>, other: &Option<Bytes>) -> bool
     ensures { result ≡ is_end_at_most end.now other.now }
 {
     match other {
-        Some(other) => !is_under(other.as_slice(), end),
         None => true,
+        Some(other) => !is_under(other.as_slice(), end),
     }
 }
 
@@ -67,7 +67,7 @@ pub fn meets(a: &Range, b: &Range) -> bool
     is_under_both(higher(a.lo.as_slice(), b.lo.as_slice()), &a.hi, &b.hi)
 }
 
-// Whether a key stands below two upper ends.
+// Whether a key is below two upper ends.
 fn is_under_both(key: &[u8], a: &Option<Bytes>, b: &Option<Bytes>) -> bool
     ensures { result ≡ (is_under key.now a.now && is_under key.now b.now) }
 {

@@ -3,7 +3,7 @@ use Rattle.std.proofs.Common.{◌≡◌, ℕ, zero, suc, ◌+◌, ◌-◌, ◌*�
 use Rattle.std.specs.Int.{bytes_high_first}
 use Rattle.std.proofs.Math.Nat.{pow-suc, pow-le-pow_right}
 use Rattle.std.proofs.lemmas.Nat.{pow-add}
-use Rattle.hc_record.specs.Varint.{marked, varint_behind}
+use Rattle.hc_record.specs.Varint.{marked, read_varint}
 use Rattle.std.proofs.lemmas.Bool.{le-ltb}
 
 -- ---- seven bits a byte
@@ -20,11 +20,11 @@ one_more_fits n k b fits small =
     let e : 2 ^ (7 * (k + 1)) ≡ 2 ^ (7 * k) * 2 ^ 7 = ap (λ (p : ℕ). 2 ^ p) (let q : 7 * (k + 1) ≡ 7 * k + 7 = omega arith in q) ∙ pow-add 2 (7 * k) 7 in
     rw e (omega (arith, fits, small))
 
--- behind one marked byte more, the rest is read to the same number as all bytes
-pub behind_one_more : (n k b : ℕ) (rest after bytes : List ℕ) → k < 8 → 128 ≤ b → rest ≡ b ∷ after → varint_behind (8 - k) n rest ≡ varint_behind 8 0 bytes → varint_behind (8 - (k + 1)) (n * 128 + (b - 128)) after ≡ varint_behind 8 0 bytes
-behind_one_more n k b rest after bytes lt large parts so_far =
+-- after one marked byte more, the rest is read to the same number as all bytes
+pub read_one_more : (n k b : ℕ) (rest after bytes : List ℕ) → k < 8 → 128 ≤ b → rest ≡ b ∷ after → read_varint (8 - k) n rest ≡ read_varint 8 0 bytes → read_varint (8 - (k + 1)) (n * 128 + (b - 128)) after ≡ read_varint 8 0 bytes
+read_one_more n k b rest after bytes lt large parts so_far =
     let left : 8 - k ≡ suc (8 - (k + 1)) = omega arith in
-    let one : varint_behind (8 - k) n rest ≡ varint_behind (8 - (k + 1)) (n * 128 + (b - 128)) after = rw (left, parts, le-ltb b 128 large) refl in
+    let one : read_varint (8 - k) n rest ≡ read_varint (8 - (k + 1)) (n * 128 + (b - 128)) after = rw (left, parts, le-ltb b 128 large) refl in
     sym one ∙ so_far
 
 -- ---- eight bits a byte

@@ -75,7 +75,7 @@ values_one_more values i v same lt are is =
 pub all_values : (values : List Value) (i : ℕ) → length values ≤ i → AreValues (take i values) → AreValues values
 all_values values i all are = subst AreValues (take_all i values all) are
 
--- the parts as they are written one behind another
+-- the parts as they are written one after another
 pub assembled : (start head types all : List ℕ) (h n : ℕ) (values : List Value) → start ≡ [] → head ≡ start ++ varint h → h ≡ header_len n → n ≡ length (types_of values) → types ≡ head ++ types_of values → all ≡ types ++ bodies_of values → all ≡ encoding values
 unfolding encoding
 assembled start head types all h n values empty first h_is n_is second third =

@@ -7,47 +7,47 @@ use Rattle.std.proofs.lemmas.Nat.{shr_split}
 use Rattle.std.proofs.lemmas.Int.{to_z-of_z, of_z-to_z}
 use Rattle.hc_record.specs.Record.{body_len, type_of_magnitude, type_of_int}
 use Rattle.hc_record.specs.Reading.{bits_above, integer_of}
-use Rattle.hc_range.proofs.ByteStrings.{IsBytes, IsBytes-rest, one_byte_more, byte_at-is}
+use Rattle.hc_text.proofs.ByteStrings.{IsBytes, IsBytes-rest, one_byte_more, byte_at-is}
 use Rattle.hc_record.proofs.Steps.{either_way}
 use Rattle.hc_record.proofs.Bounds.{byte_fits, bytes_fit, ones_fit, none_fit}
 
--- a number with one byte more behind it
-abbrev pub behind_byte : ℕ → ℕ → ℕ
-behind_byte = λ high byte. high * 256 + byte
+-- a number with one byte more after it
+abbrev pub with_byte : ℕ → ℕ → ℕ
+with_byte = λ high byte. high * 256 + byte
 
 -- ---- bytes and their number
 
--- the low w bytes of a number, read behind what stands above them, give the number
-number_again : (w n : ℕ) → fold behind_byte (n / 256 ^ w) (bytes_high_first w n) ≡ n
+-- the low w bytes of a number, read after what is above them, give the number
+number_again : (w n : ℕ) → fold with_byte (n / 256 ^ w) (bytes_high_first w n) ≡ n
 number_again zero n = omega arith
 number_again (suc k) n =
     let next : n / 256 ^ suc k * 256 + byte_at k n ≡ n / 256 ^ k = rw (one_byte_more n k, byte_at-is k n) (shr_split (n / 256 ^ k) 8) in
-    ap (λ (a : ℕ). fold behind_byte a (bytes_high_first k n)) next ∙ number_again k n
+    ap (λ (a : ℕ). fold with_byte a (bytes_high_first k n)) next ∙ number_again k n
 
--- above the bytes of what was read stands what stood before them
-above_again : (above : ℕ) (bytes : List ℕ) → IsBytes bytes → fold behind_byte above bytes / 256 ^ length bytes ≡ above
+-- above the bytes of what was read is what was there before them
+above_again : (above : ℕ) (bytes : List ℕ) → IsBytes bytes → fold with_byte above bytes / 256 ^ length bytes ≡ above
 above_again above [] fits = omega arith
 above_again above (b ∷ bytes) fits =
-    one_byte_more (fold behind_byte (above * 256 + b) bytes) (length bytes)
+    one_byte_more (fold with_byte (above * 256 + b) bytes) (length bytes)
     ∙ ap (λ (n : ℕ). n / 256) (above_again (above * 256 + b) bytes (IsBytes-rest b bytes fits))
     ∙ (let e : (above * 256 + b) / 256 ≡ above = omega (arith, fits 0) in e)
 
 -- what was read from some bytes has these bytes
-bytes_again : (above : ℕ) (bytes : List ℕ) → IsBytes bytes → bytes_high_first (length bytes) (fold behind_byte above bytes) ≡ bytes
+bytes_again : (above : ℕ) (bytes : List ℕ) → IsBytes bytes → bytes_high_first (length bytes) (fold with_byte above bytes) ≡ bytes
 bytes_again above [] fits = refl
 bytes_again above (b ∷ bytes) fits =
-    let first : byte_at (length bytes) (fold behind_byte (above * 256 + b) bytes) ≡ b =
-    byte_at-is (length bytes) (fold behind_byte (above * 256 + b) bytes)
+    let first : byte_at (length bytes) (fold with_byte (above * 256 + b) bytes) ≡ b =
+    byte_at-is (length bytes) (fold with_byte (above * 256 + b) bytes)
     ∙ ap (λ (n : ℕ). n % 256) (above_again (above * 256 + b) bytes (IsBytes-rest b bytes fits))
     ∙ (let e : (above * 256 + b) % 256 ≡ b = omega (arith, fits 0) in e) in
-    ap (λ (c : ℕ). c ∷ bytes_high_first (length bytes) (fold behind_byte (above * 256 + b) bytes)) first
+    ap (λ (c : ℕ). c ∷ bytes_high_first (length bytes) (fold with_byte (above * 256 + b) bytes)) first
     ∙ ap (λ (l : List ℕ). b ∷ l) (bytes_again (above * 256 + b) bytes (IsBytes-rest b bytes fits))
 
--- what k bytes hold, with more bytes behind it, is held in so many more
-number_fits : (k above : ℕ) (bytes : List ℕ) → IsBytes bytes → above < 256 ^ k → fold behind_byte above bytes < 256 ^ (k + length bytes)
+-- what k bytes hold, with more bytes after it, is held in so many more
+number_fits : (k above : ℕ) (bytes : List ℕ) → IsBytes bytes → above < 256 ^ k → fold with_byte above bytes < 256 ^ (k + length bytes)
 number_fits k above [] fits lt = subst (λ (e : ℕ). above < 256 ^ e) (let e : k ≡ k + 0 = omega arith in e) lt
 number_fits k above (b ∷ bytes) fits lt =
-    subst (λ (e : ℕ). fold behind_byte (above * 256 + b) bytes < 256 ^ e) (let e : k + 1 + length bytes ≡ k + suc (length bytes) = omega arith in e)
+    subst (λ (e : ℕ). fold with_byte (above * 256 + b) bytes < 256 ^ e) (let e : k + 1 + length bytes ≡ k + suc (length bytes) = omega arith in e)
     (number_fits (k + 1) (above * 256 + b) bytes (IsBytes-rest b bytes fits) (byte_fits above k b lt (fits 0)))
 
 -- a number in w bytes takes w bytes
@@ -60,14 +60,14 @@ above_fits : (bytes : List ℕ) → length bytes ≤ 8 → bits_above bytes < 25
 above_fits bytes short = either_way (λ (n : ℕ). n < 256 ^ (8 - length bytes)) (get_or bytes 0 0) 128 0 (2 ^ (64 - 8 * length bytes) - 1) (λ _. none_fit (8 - length bytes)) (λ _. ones_fit (length bytes) short)
 
 -- at most eight bytes and the bits above them are a number of 64 bits
-pub bits_fit : (bytes : List ℕ) → IsBytes bytes → length bytes ≤ 8 → fold behind_byte (bits_above bytes) bytes < 2 ^ 64
+pub bits_fit : (bytes : List ℕ) → IsBytes bytes → length bytes ≤ 8 → fold with_byte (bits_above bytes) bytes < 2 ^ 64
 bits_fit bytes fits short =
-    bytes_fit (fold behind_byte (bits_above bytes) bytes) (8 - length bytes + length bytes) (omega (arith, short)) (number_fits (8 - length bytes) (bits_above bytes) bytes fits (above_fits bytes short))
+    bytes_fit (fold with_byte (bits_above bytes) bytes) (8 - length bytes + length bytes) (omega (arith, short)) (number_fits (8 - length bytes) (bits_above bytes) bytes fits (above_fits bytes short))
 
 -- what is read as an integer has these bytes
 pub integer_found : (bytes : List ℕ) → IsBytes bytes → length bytes ≤ 8 → bytes_high_first (length bytes) (cast_unsigned w64 (integer_of bytes)) ≡ bytes
 integer_found bytes fits short =
-    ap (bytes_high_first (length bytes)) (of_z-to_z w64 (fold behind_byte (bits_above bytes) bytes) (bits_fit bytes fits short))
+    ap (bytes_high_first (length bytes)) (of_z-to_z w64 (fold with_byte (bits_above bytes) bytes) (bits_fit bytes fits short))
     ∙ bytes_again (bits_above bytes) bytes fits
 
 -- ---- the type of an integer
@@ -154,8 +154,8 @@ above_is w n above one which =
     ]
 
 -- a number that w bytes hold with its sign is read from them again
-bits_again : (w n : ℕ) → 1 ≤ w → (((n / 256 ^ w ≡ 0) × (byte_at (w - 1) n < 128)) ⊎ ((n / 256 ^ w ≡ 2 ^ (64 - 8 * w) - 1) × (128 ≤ byte_at (w - 1) n))) → fold behind_byte (bits_above (bytes_high_first w n)) (bytes_high_first w n) ≡ n
-bits_again w n one which = ap (λ (a : ℕ). fold behind_byte a (bytes_high_first w n)) (above_is w n 0 one which) ∙ number_again w n
+bits_again : (w n : ℕ) → 1 ≤ w → (((n / 256 ^ w ≡ 0) × (byte_at (w - 1) n < 128)) ⊎ ((n / 256 ^ w ≡ 2 ^ (64 - 8 * w) - 1) × (128 ≤ byte_at (w - 1) n))) → fold with_byte (bits_above (bytes_high_first w n)) (bytes_high_first w n) ≡ n
+bits_again w n one which = ap (λ (a : ℕ). fold with_byte a (bytes_high_first w n)) (above_is w n 0 one which) ∙ number_again w n
 
 -- an integer that has a body is read from it
 pub integer_again : (z : ℤ) → FitsSigned w64 z → type_of_int z ≤ 6 → integer_of (bytes_high_first (body_len (type_of_int z)) (cast_unsigned w64 z)) ≡ z

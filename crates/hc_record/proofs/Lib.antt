@@ -1,4 +1,5 @@
 mod Bounds
+mod Cuts
 mod Encodings
 mod Headers
 mod Integers

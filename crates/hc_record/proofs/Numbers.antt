@@ -4,9 +4,9 @@ use Rattle.std.specs.Prelude.{◌==◌}
 use Rattle.std.proofs.lemmas.Bool.{cases_lt, lt-ltb, le-ltb, ltb-true, ltb-false, eq-eqb}
 use Rattle.std.proofs.lemmas.List.{length-append}
 use Rattle.std.proofs.lemmas.Nat.{shr-shr, shr_split, shr_below, div_below}
-use Rattle.hc_record.specs.Varint.{varint_len, varint, marked, varint_behind}
+use Rattle.hc_record.specs.Varint.{varint_len, varint, marked, read_varint}
 use Rattle.hc_record.specs.Reading.{number_at}
-use Rattle.hc_range.proofs.ByteStrings.{IsBytes, IsBytes-rest}
+use Rattle.hc_text.proofs.ByteStrings.{IsBytes, IsBytes-rest}
 use Rattle.hc_record.proofs.Steps.{either_way, chosen}
 
 -- ---- how many bytes a number takes
@@ -40,12 +40,12 @@ varint_len_is n =
 one_group_more : (n k : ℕ) → n / 2 ^ (7 * suc k) ≡ n / 2 ^ (7 * k) / 2 ^ 7
 one_group_more n k = ap (λ (e : ℕ). n / 2 ^ e) (let e : 7 * suc k ≡ 7 * k + 7 = omega arith in e) ∙ sym (shr-shr n (7 * k) 7)
 
--- a number is put together again from its lowest group and what stands above
+-- a number is put together again from its lowest group and what is above
 whole : (n : ℕ) → n / 2 ^ 7 * 2 ^ 7 + n % 2 ^ 7 ≡ n
 whole n = shr_split n 7
 
--- marked groups, read behind what stands above them
-marked_again : (k j f n : ℕ) (rest : List ℕ) → f ≡ k + j → varint_behind f (n / 2 ^ (7 * k)) (marked k n ++ rest) ≡ varint_behind j n rest
+-- marked groups, read after what is above them
+marked_again : (k j f n : ℕ) (rest : List ℕ) → f ≡ k + j → read_varint f (n / 2 ^ (7 * k)) (marked k n ++ rest) ≡ read_varint j n rest
 marked_again zero j f n rest e =
     let same : f ≡ j = omega arith in
     let all : n / 1 ≡ n = omega arith in
@@ -57,12 +57,12 @@ marked_again (suc k) j (suc f) n rest e =
     let next : n / 2 ^ (7 * suc k) * 2 ^ 7 + ((128 + n / 2 ^ (7 * k) % 2 ^ 7) - 128) ≡ n / 2 ^ (7 * k) = rw (one_group_more n k) (omega (arith, whole (n / 2 ^ (7 * k)))) in
     rw (is_marked, next) (marked_again k j f n rest (omega arith))
 
--- above k bits of a number below 2 ^ k stands nothing
+-- above k bits of a number below 2 ^ k there is nothing
 nothing_above : (n k : ℕ) → n < 2 ^ k → n / 2 ^ k ≡ 0
 nothing_above n k lt = omega (arith, div_below n (2 ^ k) 1 (omega arith) (omega (arith, lt)))
 
 -- a varint is read to its number, and what follows it is left
-pub varint_again : (n : ℕ) (rest : List ℕ) → n < 2 ^ 64 → varint_behind 8 0 (varint n ++ rest) ≡ Some (n, rest)
+pub varint_again : (n : ℕ) (rest : List ℕ) → n < 2 ^ 64 → read_varint 8 0 (varint n ++ rest) ≡ Some (n, rest)
 unfolding varint
 varint_again n rest fits =
     elim (cases_lt n (2 ^ 56)) [
@@ -73,13 +73,13 @@ varint_again n rest fits =
           let above : n / 2 ^ 7 / 2 ^ (7 * (varint_len n - 1)) ≡ 0 = nothing_above (n / 2 ^ 7) (7 * (varint_len n - 1)) (shr_below n (7 * (varint_len n - 1)) 7 (subst (λ (e : ℕ). n < 2 ^ e) (omega (arith, len.0)) (len.2 lt).1)) in
           let last : nat_lt (n % 2 ^ 7) 128 ≡ true = lt-ltb _ _ (omega arith) in
           rw (lt-ltb n (2 ^ 56) lt, append_assoc (marked (varint_len n - 1) (n / 2 ^ 7)) (n % 2 ^ 7 ∷ []) rest)
-          (subst (λ (a : ℕ). varint_behind 8 a (marked (varint_len n - 1) (n / 2 ^ 7) ++ n % 2 ^ 7 ∷ rest) ≡ Some (n, rest)) above
+          (subst (λ (a : ℕ). read_varint 8 a (marked (varint_len n - 1) (n / 2 ^ 7) ++ n % 2 ^ 7 ∷ rest) ≡ Some (n, rest)) above
           (marked_again (varint_len n - 1) (suc (8 - varint_len n)) 8 (n / 2 ^ 7) (n % 2 ^ 7 ∷ rest) (omega (arith, len.0, (len.2 lt).0))
           ∙ rw (last, whole n) refl))
       | inr le ↦
           let above : n / 2 ^ 8 / 2 ^ (7 * 8) ≡ 0 = nothing_above (n / 2 ^ 8) 56 (omega arith) in
           rw (le-ltb n (2 ^ 56) le)
-          (subst (λ (a : ℕ). varint_behind 8 a (marked 8 (n / 2 ^ 8) ++ n % 2 ^ 8 ∷ rest) ≡ Some (n, rest)) above
+          (subst (λ (a : ℕ). read_varint 8 a (marked 8 (n / 2 ^ 8) ++ n % 2 ^ 8 ∷ rest) ≡ Some (n, rest)) above
           (marked_again 8 0 8 (n / 2 ^ 8) (n % 2 ^ 8 ∷ rest) refl ∙ rw (shr_split n 8) refl))
     ]
 
@@ -106,7 +106,7 @@ number_again stop n rest fits =
 
 -- ---- what is read is written so
 
--- the last byte of a number has s bits, and k marked ones stand before it
+-- the last byte of a number has s bits, and k marked ones are before it
 pub record IsFound (f above : ℕ) (bytes : List ℕ) (n : ℕ) (rest : List ℕ) : Type 0 where
   pub k : ℕ
   pub s : ℕ
@@ -118,8 +118,8 @@ pub record IsFound (f above : ℕ) (bytes : List ℕ) (n : ℕ) (rest : List ℕ
 some_same : (x y : ℕ × List ℕ) → (let one : ℕ × List ℕ → Option (ℕ × List ℕ) = λ a. Some a in one x ≡ one y) → x ≡ y
 some_same x y e = cc
 
--- what is read as a number stands there in marked groups and a last byte
-pub varint_found : (f above : ℕ) (bytes : List ℕ) (x : ℕ × List ℕ) → IsBytes bytes → varint_behind f above bytes ≡ Some x → IsFound f above bytes x.0 x.1
+-- what is read as a number is there in marked groups and a last byte
+pub varint_found : (f above : ℕ) (bytes : List ℕ) (x : ℕ × List ℕ) → IsBytes bytes → read_varint f above bytes ≡ Some x → IsFound f above bytes x.0 x.1
 varint_found f above [] x fits e = absurd (none e)
   where
     none : (let no : Option (ℕ × List ℕ) = None in no ≡ Some x) → ⊥
@@ -134,7 +134,7 @@ varint_found zero above (b ∷ rest) x fits e =
       parts = ap (λ (c : ℕ). c ∷ rest) (omega (arith, fits 0));
     }
 varint_found (suc f) above (b ∷ rest) x fits e =
-    elim (chosen (nat_lt b 128) (Some (above * 2 ^ 7 + b, rest)) (varint_behind f (above * 2 ^ 7 + (b - 128)) rest) (Some x) e) [
+    elim (chosen (nat_lt b 128) (Some (above * 2 ^ 7 + b, rest)) (read_varint f (above * 2 ^ 7 + (b - 128)) rest) (Some x) e) [
       | inl now ↦
           let small : b < 128 = ltb-true _ _ now.0 in
           subst (λ (y : ℕ × List ℕ). IsFound (suc f) above (b ∷ rest) y.0 y.1) (some_same (above * 2 ^ 7 + b, rest) x now.1)

@@ -10,14 +10,14 @@ use Rattle.std.proofs.lemmas.Str.{IsUtf8-from_is_utf8, is_utf8-from_IsUtf8}
 use Rattle.hc_value.specs.declared.value.Value.{Value}
 use Rattle.hc_value.specs.declared.value.Value.TheVariants.{Null, Int, Text, Blob}
 use Rattle.hc_record.specs.declared.fault.RecordKind.TheVariants.{Short, Spelling, Utf8, Tail}
-use Rattle.hc_record.specs.Varint.{varint, varint_len, marked, varint_behind}
+use Rattle.hc_record.specs.Varint.{varint, varint_len, marked, read_varint}
 use Rattle.hc_value.specs.Values.{IsValue, AreValues}
 use Rattle.hc_record.specs.Record.{body_len, type_of_magnitude, type_of_int, type_of, body_of, types_of, bodies_of, header_len, encoding}
 use Rattle.hc_record.specs.Reading.{◌>>=◌, Gives, fault, number_among, number_at, is_bad, type_at, types_within, types_at, bits_above, integer_of, value_of, value_at, values_at, values_of_types, columns_at, record_at, reading}
-use Rattle.hc_range.proofs.ByteStrings.{IsBytes, IsBytes-drop, IsBytes-take}
+use Rattle.hc_text.proofs.ByteStrings.{IsBytes, IsBytes-drop, IsBytes-take}
 use Rattle.hc_record.proofs.Steps.{first_step, chosen, ok_same}
 use Rattle.hc_record.proofs.Numbers.{varint_len_is, number_again, IsFound, varint_found, length-varint, length-marked}
-use Rattle.hc_record.proofs.Integers.{behind_byte, integer_found, integer_again, bits_fit, int_body_len, type_of_magnitude_is, length-high_first}
+use Rattle.hc_record.proofs.Integers.{with_byte, integer_found, integer_again, bits_fit, int_body_len, type_of_magnitude_is, length-high_first}
 use Rattle.hc_record.proofs.Types.{Read, type_is_number, values_first, then_value, through, same_step, type_shortens}
 use Rattle.hc_record.proofs.Headers.{header_len-types}
 use Rattle.hc_record.proofs.Encodings.{length-encoding, all_types_fit}
@@ -28,9 +28,9 @@ no_fault at kind x e = cc
 
 -- ---- what is read is written so
 
--- what stands behind the front of some bytes is bytes
-IsBytes-behind : (a b bytes : List ℕ) → bytes ≡ a ++ b → IsBytes bytes → IsBytes b
-IsBytes-behind a b bytes parts fits = subst IsBytes (ap (drop (length a)) parts ∙ drop_at a b (length a) refl) (IsBytes-drop (length a) bytes fits)
+-- what follows the front of some bytes is bytes
+IsBytes-after : (a b bytes : List ℕ) → bytes ≡ a ++ b → IsBytes bytes → IsBytes b
+IsBytes-after a b bytes parts fits = subst IsBytes (ap (drop (length a)) parts ∙ drop_at a b (length a) refl) (IsBytes-drop (length a) bytes fits)
 
 -- a number that was found in as many bytes as it takes is written so
 number_parts : (bytes : List ℕ) (n : ℕ) (rest : List ℕ) → IsFound 8 0 bytes n rest → length bytes ≡ varint_len n + length rest → bytes ≡ varint n ++ rest
@@ -62,7 +62,7 @@ number_parts bytes n rest r long =
     by_nine n nine = elim (cases_lt n (2 ^ 56)) [ inl lt ↦ absurd (omega (arith, ((varint_len_is n).2 lt).0)) | inr le ↦ le ]
 
 -- the same, from a reading that told no fault
-number_among_found : (stop : ℕ) (bytes : List ℕ) (o : Option (ℕ × List ℕ)) (x : ℕ × List ℕ) → IsBytes bytes → varint_behind 8 0 bytes ≡ o → number_among stop bytes o ≡ Ok x → bytes ≡ varint x.0 ++ x.1
+number_among_found : (stop : ℕ) (bytes : List ℕ) (o : Option (ℕ × List ℕ)) (x : ℕ × List ℕ) → IsBytes bytes → read_varint 8 0 bytes ≡ o → number_among stop bytes o ≡ Ok x → bytes ≡ varint x.0 ++ x.1
 number_among_found stop bytes None x fits is e = absurd (no_fault stop Short x e)
 number_among_found stop bytes (Some (n, rest)) x fits is e =
     elim (chosen (length bytes == varint_len n + length rest) (Ok (n, rest)) (fault (stop - length bytes) Spelling) (Ok x) e) [
@@ -74,8 +74,8 @@ number_among_found stop bytes (Some (n, rest)) x fits is e =
 pub number_found : (stop : ℕ) (bytes : List ℕ) (x : ℕ × List ℕ) → IsBytes bytes → number_at stop bytes ≡ Ok x → (bytes ≡ varint x.0 ++ x.1) × IsBytes x.1
 unfolding number_at
 number_found stop bytes x fits e =
-    let parts = number_among_found stop bytes (varint_behind 8 0 bytes) x fits refl e in
-    (parts, IsBytes-behind (varint x.0) x.1 bytes parts fits)
+    let parts = number_among_found stop bytes (read_varint 8 0 bytes) x fits refl e in
+    (parts, IsBytes-after (varint x.0) x.1 bytes parts fits)
 
 -- numbers whose test is false differ
 eqb-false' : (m n : ℕ) → (m == n) ≡ false → m ≡ n → ⊥
@@ -104,8 +104,8 @@ zero_or_one t le lt good = grind arith
 -- what is read from at most eight bytes is an i64
 integer_fits : (body : List ℕ) → IsBytes body → length body ≤ 8 → FitsSigned w64 (integer_of body)
 integer_fits body fits short =
-    let fit : Fits w64 (fold behind_byte (bits_above body) body) = omega (arith, bits_fit body fits short) in
-    sfits_to_z {w = w64} {n = fold behind_byte (bits_above body) body} fit
+    let fit : Fits w64 (fold with_byte (bits_above body) body) = omega (arith, bits_fit body fits short) in
+    sfits_to_z {w = w64} {n = fold with_byte (bits_above body) body} fit
 
 -- 0 and 1 are i64
 zero_fits : FitsSigned w64 (pos 0)
@@ -182,7 +182,7 @@ value_found end place t bytes x fits good e =
           (sym (take-append-drop (body_len t) bytes) ∙ ap (λ (l : List ℕ). l ++ drop (body_len t) bytes) r.0, r.1, r.2, IsBytes-drop (body_len t) bytes fits)
     ]
 
--- the types up to a place, and the bodies behind it
+-- the types up to a place, and the bodies after it
 values_found : (most stop end : ℕ) (types bytes : List ℕ) (all : List (ℕ × ℕ)) (x : List Value × List ℕ) → length types ≤ most → IsBytes types → IsBytes bytes → types_within most stop types ≡ Ok all → values_at end all bytes ≡ Ok x
     → (types ≡ types_of x.0) × (bytes ≡ bodies_of x.0 ++ x.1) × AreValues x.0
 values_found most stop end [] bytes all x within fits bytes_fit read e =
@@ -214,7 +214,7 @@ values_found (suc most) stop end (b ∷ types) bytes all x within fits bytes_fit
       (first.2, others.2),
     )
 
--- values that were read behind a header are written so, with their types in as many bytes as the header says
+-- values that were read after a header are written so, with their types in as many bytes as the header says
 columns_found : (end size : ℕ) (bytes : List ℕ) (x : List Value × List ℕ) → IsBytes bytes → columns_at end size bytes ≡ Ok x → (length (types_of x.0) ≡ size) × (bytes ≡ types_of x.0 ++ (bodies_of x.0 ++ x.1)) × AreValues x.0
 unfolding columns_at values_of_types types_at
 columns_found end size bytes x fits e =
@@ -252,7 +252,7 @@ record_found bytes x fits e =
 -- ---- what is written is read again
 
 -- a body is as long as the value's type says
-length-body_of : (v : Value) → length (body_of v) ≡ body_len (type_of v)
+pub length-body_of : (v : Value) → length (body_of v) ≡ body_len (type_of v)
 unfolding body_len
 length-body_of Null = refl
 length-body_of (Int n) = length-high_first (body_len (type_of_int n)) (cast_unsigned w64 n)
@@ -311,12 +311,12 @@ no_bad_type (Text text) = above_11 (13 + 2 * length text) (omega arith)
 no_bad_type (Blob bytes) = above_11 (12 + 2 * length bytes) (omega arith)
 
 -- a value's type is read again
-type_again : (stop : ℕ) (v : Value) (rest : List ℕ) → type_of v < 2 ^ 64 → type_at stop (varint (type_of v) ++ rest) ≡ Ok (type_of v, rest)
+pub type_again : (stop : ℕ) (v : Value) (rest : List ℕ) → type_of v < 2 ^ 64 → type_at stop (varint (type_of v) ++ rest) ≡ Ok (type_of v, rest)
 unfolding type_at
 type_again stop v rest fits = rw (number_again stop (type_of v) rest fits, no_bad_type v) refl
 
 -- the type of a value whose body is below 2 ^ 32 bytes is a number of 64 bits
-type_fits : (v : Value) → length (body_of v) < 2 ^ 32 → type_of v < 2 ^ 64
+pub type_fits : (v : Value) → length (body_of v) < 2 ^ 32 → type_of v < 2 ^ 64
 type_fits Null fits = omega arith
 type_fits (Int (pos zero)) fits = omega arith
 type_fits (Int (pos (suc zero))) fits = omega arith
@@ -331,7 +331,7 @@ unfolding values_of_types types_at
 none_again stop end rest = refl
 
 -- a value before others that were read
-abbrev put_first : Value → List Value × List ℕ → Read (List Value × List ℕ)
+abbrev pub put_first : Value → List Value × List ℕ → Read (List Value × List ℕ)
 put_first v others = Ok (v ∷ others.0, others.1)
 
 -- where the others are read again, so are they with a value before them
@@ -341,7 +341,7 @@ unfolding values_of_types
 with_first stop end v values rest e = ap (λ (r : Read (List Value × List ℕ)). r >>= put_first v) e
 
 -- values are read again from their types and their bodies
-values_again : (stop end : ℕ) (values : List Value) (rest : List ℕ) → AreValues values → length (bodies_of values) < 2 ^ 32 → values_of_types stop end (types_of values) (bodies_of values ++ rest) ≡ Ok (values, rest)
+pub values_again : (stop end : ℕ) (values : List Value) (rest : List ℕ) → AreValues values → length (bodies_of values) < 2 ^ 32 → values_of_types stop end (types_of values) (bodies_of values ++ rest) ≡ Ok (values, rest)
 values_again stop end [] rest are fits = none_again stop end rest
 values_again stop end (v ∷ values) rest are fits =
     let long : length (bodies_of (v ∷ values)) ≡ length (body_of v) + length (bodies_of values) = length-append (body_of v) (bodies_of values) in
@@ -355,7 +355,7 @@ values_again stop end (v ∷ values) rest are fits =
     ∙ sym (through (types_at stop (types_of values)) (λ all. values_at end all (bodies_of values ++ rest)) (λ others. (v ∷ others.0, others.1)))
     ∙ with_first stop end v values rest (values_again stop end values rest are.1 (omega (arith, long, fits)))
 
--- the same from types and bodies that stand one behind the other
+-- the same from types and bodies one after the other
 columns_again : (end : ℕ) (values : List Value) (rest : List ℕ) → AreValues values → length (bodies_of values) < 2 ^ 32 → columns_at end (length (types_of values)) (types_of values ++ (bodies_of values ++ rest)) ≡ Ok (values, rest)
 unfolding columns_at
 columns_again end values rest are fits =
@@ -363,7 +363,7 @@ columns_again end values rest are fits =
     (values_again (end - length (bodies_of values ++ rest)) end values rest are fits)
 
 -- a header's length is a number of 64 bits
-header_fits : (types : ℕ) → types < 2 ^ 32 → header_len types < 2 ^ 64
+pub header_fits : (types : ℕ) → types < 2 ^ 32 → header_len types < 2 ^ 64
 unfolding header_len
 header_fits types fits = omega (arith, (varint_len_is (types + varint_len types)).1)
 

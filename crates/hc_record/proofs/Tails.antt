@@ -8,11 +8,11 @@ use Rattle.hc_value.specs.declared.value.Value.TheVariants.{Null, Int, Text, Blo
 use Rattle.hc_record.specs.declared.fault.RecordKind.TheVariants.{Short, Spelling, Utf8, BadType, Tail}
 use Rattle.hc_record.specs.declared.fault.RecordFault.{RecordFault}
 use Rattle.hc_record.specs.declared.fault.RecordFault.TheVariants.{Bad}
-use Rattle.hc_record.specs.Varint.{varint_len, varint_behind}
+use Rattle.hc_record.specs.Varint.{varint_len, read_varint}
 use Rattle.hc_record.specs.Record.{body_len, type_of_int, header_len, encoding}
 use Rattle.hc_record.specs.Reading.{◌>>=◌, fault, number_among, number_at, is_bad, type_at, types_within, types_at, integer_of, value_of, value_at, values_at, values_of_types, columns_at, record_at, reading}
 use Rattle.hc_record.specs.Laws.{HasTail}
-use Rattle.hc_range.proofs.ByteStrings.{IsBytes}
+use Rattle.hc_text.proofs.ByteStrings.{IsBytes}
 use Rattle.hc_record.proofs.Steps.{chosen}
 use Rattle.hc_record.proofs.Types.{Read}
 use Rattle.hc_record.proofs.Records.{record_found, record_again}
@@ -58,7 +58,7 @@ among_no_tail stop bytes (Some (n, rest)) = either_no_tail (length bytes == vari
 
 number_no_tail : (stop : ℕ) (bytes : List ℕ) → NoTail (number_at stop bytes)
 unfolding number_at
-number_no_tail stop bytes = among_no_tail stop bytes (varint_behind 8 0 bytes)
+number_no_tail stop bytes = among_no_tail stop bytes (read_varint 8 0 bytes)
 
 -- reading a type tells no Tail, and neither does reading several
 type_no_tail : (stop : ℕ) (bytes : List ℕ) → NoTail (type_at stop bytes)
@@ -95,7 +95,7 @@ values_no_tail end (type ∷ types) bytes =
     then_no_tail (value_at end type bytes) (λ v. values_at end types v.1 >>= λ values. Ok (v.0 ∷ values.0, values.1)) (value_no_tail end type bytes)
     (λ v. then_no_tail (values_at end types v.1) (λ values. Ok (v.0 ∷ values.0, values.1)) (values_no_tail end types v.1) (λ values. ok_no_tail (v.0 ∷ values.0, values.1)))
 
--- reading what is behind the header tells no Tail
+-- reading what follows the header tells no Tail
 columns_no_tail : (end size : ℕ) (bytes : List ℕ) → NoTail (columns_at end size bytes)
 unfolding columns_at values_of_types types_at
 columns_no_tail end size bytes =
@@ -123,10 +123,10 @@ not_nil rest some none = no (sym some ∙ ap (λ (l : List ℕ). length l == 0) 
     no : false ≡ true → ⊥
     no q = cc
 
--- where a Tail is told behind the reading of a record, the record has bytes behind it
-behind_record : (bytes : List ℕ) (at : ℕ) (r : Read (List Value × List ℕ)) → IsBytes bytes → record_at bytes ≡ r → (r >>= λ found. cond (length found.1 == 0) (Ok found.0) (fault (length bytes - length found.1) Tail)) ≡ Err (Bad at Tail) → HasTail bytes at
-behind_record bytes at (Err e) fits is same = absurd (record_no_tail bytes at (is ∙ ap (λ (g : RecordFault). Err g) (err_same e (Bad at Tail) same)))
-behind_record bytes at (Ok x) fits is same =
+-- where a Tail is told after the reading of a record, the record has bytes after it
+tail_after : (bytes : List ℕ) (at : ℕ) (r : Read (List Value × List ℕ)) → IsBytes bytes → record_at bytes ≡ r → (r >>= λ found. cond (length found.1 == 0) (Ok found.0) (fault (length bytes - length found.1) Tail)) ≡ Err (Bad at Tail) → HasTail bytes at
+tail_after bytes at (Err e) fits is same = absurd (record_no_tail bytes at (is ∙ ap (λ (g : RecordFault). Err g) (err_same e (Bad at Tail) same)))
+tail_after bytes at (Ok x) fits is same =
     elim (chosen (length x.1 == 0) (Ok x.0) (fault (length bytes - length x.1) Tail) (Err (Bad at Tail)) same) [
       | inl all ↦ absurd (ok_no_tail x.0 at all.1)
       | inr more ↦
@@ -135,12 +135,12 @@ behind_record bytes at (Ok x) fits is same =
           (x.0, x.1, r.1, r.0, not_nil x.1 more.0, omega (arith, place, ap length r.0, length-append (encoding x.0) x.1))
     ]
 
--- a Tail is told only where a record stands at the front and ends at that place
+-- a Tail is told only where a record is at the front and ends at that place
 pub tail_found : (bytes : List ℕ) (at : ℕ) → IsBytes bytes → reading bytes ≡ Err (Bad at Tail) → HasTail bytes at
 unfolding reading
-tail_found bytes at fits e = behind_record bytes at (record_at bytes) fits refl e
+tail_found bytes at fits e = tail_after bytes at (record_at bytes) fits refl e
 
--- and the other way round: a record with bytes behind it is read to a Tail where it ends
+-- and the other way round: a record with bytes after it is read to a Tail where it ends
 pub tail_told : (bytes : List ℕ) (at : ℕ) → length bytes < 2 ^ 32 → HasTail bytes at → reading bytes ≡ Err (Bad at Tail)
 unfolding reading
 tail_told bytes at short (v, rest, are, parts, some, place) =

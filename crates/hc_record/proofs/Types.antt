@@ -8,7 +8,7 @@ use Rattle.hc_value.specs.declared.value.Value.{Value}
 use Rattle.hc_record.specs.declared.fault.RecordFault.{RecordFault}
 use Rattle.hc_record.specs.declared.fault.RecordFault.TheVariants.{Bad, NoMemory}
 use Rattle.hc_record.specs.declared.fault.RecordKind.TheVariants.{Short, Spelling, BadType}
-use Rattle.hc_record.specs.Varint.{varint_behind, varint_len}
+use Rattle.hc_record.specs.Varint.{read_varint, varint_len}
 use Rattle.hc_record.specs.Reading.{◌>>=◌, Fails, fault, number_among, number_at, is_bad, type_at, types_within, types_at, value_at, values_at, values_of_types}
 use Rattle.hc_record.proofs.Steps.{first_step, chosen, ok_same}
 use Rattle.hc_record.proofs.Numbers.{varint_len_is}
@@ -32,7 +32,7 @@ number_among_shortens stop bytes (Some (n, rest)) x e =
 
 pub number_shortens : (stop : ℕ) (bytes : List ℕ) (x : ℕ × List ℕ) → number_at stop bytes ≡ Ok x → length x.1 < length bytes
 unfolding number_at
-number_shortens stop bytes x e = number_among_shortens stop bytes (varint_behind 8 0 bytes) x e
+number_shortens stop bytes x e = number_among_shortens stop bytes (read_varint 8 0 bytes) x e
 
 -- a type is a number that is not bad
 pub type_is_number : (stop : ℕ) (bytes : List ℕ) (x : ℕ × List ℕ) → type_at stop bytes ≡ Ok x → (number_at stop bytes ≡ Ok x) × (is_bad x.0 ≡ false)
@@ -67,8 +67,8 @@ types_within-enough (suc m) (suc n) stop (b ∷ bytes) p q =
     let shorter = type_shortens stop (b ∷ bytes) t e in
     ap (λ (r : Read (List (ℕ × ℕ))). r >>= λ types. Ok ((stop - length (b ∷ bytes), t.0) ∷ types)) (types_within-enough m n stop t.1 (omega (arith, shorter)) (omega (arith, shorter))))
 
--- the types behind the first, with the first and its place before them
-abbrev then_types : ℕ → List ℕ → ℕ × List ℕ → Read (List (ℕ × ℕ))
+-- the types after the first, with the first and its place before them
+abbrev pub then_types : ℕ → List ℕ → ℕ × List ℕ → Read (List (ℕ × ℕ))
 then_types stop bytes t = types_at stop t.1 >>= λ types. Ok ((stop - length bytes, t.0) ∷ types)
 
 -- the first type, and then the others
@@ -95,15 +95,15 @@ SameTest stop rest bytes =
     (IsOk (types_at stop rest) → IsOk (types_at stop bytes)) × ((f : RecordFault) → types_at stop rest ≡ Err f → types_at stop bytes ≡ Err f)
 
 -- what is done with a success leaves it one
-ok_behind : {A B : Type 0} (r : Read A) (f : A → B) → IsOk r → IsOk (r >>= λ x. Ok (f x))
-ok_behind (Ok x) f h = h
-ok_behind (Err e) f h = h
+ok_then : {A B : Type 0} (r : Read A) (f : A → B) → IsOk r → IsOk (r >>= λ x. Ok (f x))
+ok_then (Ok x) f h = h
+ok_then (Err e) f h = h
 
--- behind a type that was read, the test of the rest is still that of all
+-- after a type that was read, the test of the rest is still that of all
 pub test_goes_on : (stop : ℕ) (rest bytes : List ℕ) (t : ℕ × List ℕ) → 0 < length rest → type_at stop rest ≡ Ok t → SameTest stop rest bytes → SameTest stop t.1 bytes
 test_goes_on stop rest bytes t some e same =
     let first : types_at stop rest ≡ then_types stop rest t = types_at-first stop rest some ∙ ap (λ (r : Read (ℕ × List ℕ)). r >>= then_types stop rest) e in
-    ((λ ok. same.0 (rw first (ok_behind (types_at stop t.1) (λ types. (stop - length rest, t.0) ∷ types) ok))), λ f bad. same.1 f (first ∙ ap (λ (r : Read (List (ℕ × ℕ))). r >>= λ types. Ok ((stop - length rest, t.0) ∷ types)) bad))
+    ((λ ok. same.0 (rw first (ok_then (types_at stop t.1) (λ types. (stop - length rest, t.0) ∷ types) ok))), λ f bad. same.1 f (first ∙ ap (λ (r : Read (List (ℕ × ℕ))). r >>= λ types. Ok ((stop - length rest, t.0) ∷ types)) bad))
 
 -- a fault of the next type is that of the test
 pub test_ends : (e : RecordFault) (stop : ℕ) (rest bytes : List ℕ) → 0 < length rest → Fails e (type_at stop rest) → SameTest stop rest bytes → Fails e (types_at stop bytes)
@@ -118,20 +118,20 @@ test_is_done stop rest bytes none same = same.0 (rw (types_at-none stop rest non
 -- ---- the values of all types
 
 -- what was read before, and what is still read
-abbrev pub behind : List Value → Read (List Value × List ℕ) → Read (List Value × List ℕ)
-behind front read = read >>= λ x. Ok (front ++ x.0, x.1)
+abbrev pub with_front : List Value → Read (List Value × List ℕ) → Read (List Value × List ℕ)
+with_front front read = read >>= λ x. Ok (front ++ x.0, x.1)
 
 -- the first value from its body, and then the others
 abbrev pub then_value : ℕ → ℕ × ℕ → List (ℕ × ℕ) → List ℕ → Read (List Value × List ℕ)
 then_value end type types bytes = value_at end type bytes >>= λ v. values_at end types v.1 >>= λ values. Ok (v.0 ∷ values.0, values.1)
 
 -- a value before what is still read is one more of what was read
-one_more : (front : List Value) (v : Value) (read : Read (List Value × List ℕ)) → behind front (read >>= λ values. Ok (v ∷ values.0, values.1)) ≡ behind (front ++ v ∷ []) read
+one_more : (front : List Value) (v : Value) (read : Read (List Value × List ℕ)) → with_front front (read >>= λ values. Ok (v ∷ values.0, values.1)) ≡ with_front (front ++ v ∷ []) read
 one_more front v (Ok x) = ap (λ (l : List Value). Ok (l, x.1)) (sym (append_assoc front (v ∷ []) x.0))
 one_more front v (Err e) = refl
 
--- a step on what was changed is a step on the change; a change behind two steps is one behind the second
-regroup : {A B C : Type 0} (r : Read A) (f : A → B) (g : B → Read C) → ((r >>= λ x. Ok (f x)) >>= g) ≡ (r >>= λ x. g (f x))
+-- a step on what was changed is a step on the change; a change after two steps is one after the second
+pub regroup : {A B C : Type 0} (r : Read A) (f : A → B) (g : B → Read C) → ((r >>= λ x. Ok (f x)) >>= g) ≡ (r >>= λ x. g (f x))
 regroup (Ok x) f g = refl
 regroup (Err e) f g = refl
 
@@ -147,50 +147,50 @@ values_first stop end types bytes t some e =
     ap (λ (r : Read (List (ℕ × ℕ))). r >>= λ all. values_at end all bytes) (types_at-first stop types some ∙ ap (λ (r : Read (ℕ × List ℕ)). r >>= then_types stop types) e)
     ∙ regroup (types_at stop t.1) (λ all. (stop - length types, t.0) ∷ all) (λ all. values_at end all bytes)
 
--- behind a type and its value, the rest is read to the same total
+-- after a type and its value, the rest is read to the same total
 pub values_go_on : (stop end : ℕ) (front : List Value) (types bytes : List ℕ) (t : ℕ × List ℕ) (v : Value × List ℕ) (total : Read (List Value × List ℕ)) → 0 < length types → type_at stop types ≡ Ok t → value_at end (stop - length types, t.0) bytes ≡ Ok v
-    → behind front (values_of_types stop end types bytes) ≡ total → behind (front ++ v.0 ∷ []) (values_of_types stop end t.1 v.1) ≡ total
+    → with_front front (values_of_types stop end types bytes) ≡ total → with_front (front ++ v.0 ∷ []) (values_of_types stop end t.1 v.1) ≡ total
 unfolding values_of_types
 values_go_on stop end front types bytes t v total some e read so_far =
     let one : values_of_types stop end types bytes ≡ (values_of_types stop end t.1 v.1 >>= λ values. Ok (v.0 ∷ values.0, values.1)) =
     values_first stop end types bytes t some e
     ∙ same_step (types_at stop t.1) (λ all. then_value end (stop - length types, t.0) all bytes) (λ all. values_at end all v.1 >>= λ values. Ok (v.0 ∷ values.0, values.1)) (λ all _. ap (λ (r : Read (Value × List ℕ)). r >>= λ w. values_at end all w.1 >>= λ values. Ok (w.0 ∷ values.0, values.1)) read)
     ∙ sym (through (types_at stop t.1) (λ all. values_at end all v.1) (λ values. (v.0 ∷ values.0, values.1))) in
-    sym (one_more front v.0 (values_of_types stop end t.1 v.1)) ∙ ap (behind front) (sym one) ∙ so_far
+    sym (one_more front v.0 (values_of_types stop end t.1 v.1)) ∙ ap (with_front front) (sym one) ∙ so_far
 
 -- a fault of the next type is that of the whole
 pub type_ends_values : (e : RecordFault) (stop end : ℕ) (front : List Value) (types bytes : List ℕ) (total : Read (List Value × List ℕ)) → 0 < length types → Fails e (type_at stop types)
-    → behind front (values_of_types stop end types bytes) ≡ total → Fails e total
+    → with_front front (values_of_types stop end types bytes) ≡ total → Fails e total
 unfolding values_of_types
 type_ends_values NoMemory stop end front types bytes total some fails so_far = tt
 type_ends_values (Bad at kind) stop end front types bytes total some fails so_far =
-    sym so_far ∙ ap (behind front) (ap (λ (r : Read (List (ℕ × ℕ))). r >>= λ all. values_at end all bytes) (types_at-first stop types some ∙ ap (λ (r : Read (ℕ × List ℕ)). r >>= then_types stop types) fails))
+    sym so_far ∙ ap (with_front front) (ap (λ (r : Read (List (ℕ × ℕ))). r >>= λ all. values_at end all bytes) (types_at-first stop types some ∙ ap (λ (r : Read (ℕ × List ℕ)). r >>= then_types stop types) fails))
 
 -- a type at fault comes before a body at fault
 pub test_ends_values : (e : RecordFault) (stop end : ℕ) (front : List Value) (types bytes : List ℕ) (t : ℕ × List ℕ) (total : Read (List Value × List ℕ)) → 0 < length types → type_at stop types ≡ Ok t → Fails e (types_at stop t.1)
-    → behind front (values_of_types stop end types bytes) ≡ total → Fails e total
+    → with_front front (values_of_types stop end types bytes) ≡ total → Fails e total
 test_ends_values NoMemory stop end front types bytes t total some read fails so_far = tt
 test_ends_values (Bad at kind) stop end front types bytes t total some read fails so_far =
-    sym so_far ∙ ap (behind front) (values_first stop end types bytes t some read ∙ ap (λ (r : Read (List (ℕ × ℕ))). r >>= λ all. then_value end (stop - length types, t.0) all bytes) fails)
+    sym so_far ∙ ap (with_front front) (values_first stop end types bytes t some read ∙ ap (λ (r : Read (List (ℕ × ℕ))). r >>= λ all. then_value end (stop - length types, t.0) all bytes) fails)
 
--- behind a success, a step that always gives y gives y
+-- after a success, a step that always gives y gives y
 ok_is_some : {A B : Type 0} (r : Read A) (f : A → Read B) (y : Read B) → IsOk r → ((x : A) → f x ≡ y) → (r >>= f) ≡ y
 ok_is_some (Ok x) f y ok same = same x
 ok_is_some (Err e) f y ok same = absurd cc
 
 -- a fault of the next body is that of the whole, where all types can be read
 pub value_ends_values : (e : RecordFault) (stop end : ℕ) (front : List Value) (types bytes : List ℕ) (t : ℕ × List ℕ) (total : Read (List Value × List ℕ)) → 0 < length types → type_at stop types ≡ Ok t → IsOk (types_at stop t.1) → Fails e (value_at end (stop - length types, t.0) bytes)
-    → behind front (values_of_types stop end types bytes) ≡ total → Fails e total
+    → with_front front (values_of_types stop end types bytes) ≡ total → Fails e total
 value_ends_values NoMemory stop end front types bytes t total some read tested fails so_far = tt
 value_ends_values (Bad at kind) stop end front types bytes t total some read tested fails so_far =
     sym so_far
-    ∙ ap (behind front) (values_first stop end types bytes t some read
+    ∙ ap (with_front front) (values_first stop end types bytes t some read
     ∙ ok_is_some (types_at stop t.1) (λ all. then_value end (stop - length types, t.0) all bytes) (Err (Bad at kind)) tested (λ all. ap (λ (r : Read (Value × List ℕ)). r >>= λ w. values_at end all w.1 >>= λ values. Ok (w.0 ∷ values.0, values.1)) fails))
 
 -- where no types are left, the whole is what was read, and the bytes that are left
-pub values_are_done : (stop end : ℕ) (front : List Value) (types bytes : List ℕ) (total : Read (List Value × List ℕ)) → length types ≤ 0 → behind front (values_of_types stop end types bytes) ≡ total → total ≡ Ok (front, bytes)
+pub values_are_done : (stop end : ℕ) (front : List Value) (types bytes : List ℕ) (total : Read (List Value × List ℕ)) → length types ≤ 0 → with_front front (values_of_types stop end types bytes) ≡ total → total ≡ Ok (front, bytes)
 unfolding values_of_types
 values_are_done stop end front types bytes total none so_far =
     sym so_far
-    ∙ ap (behind front) (ap (λ (r : Read (List (ℕ × ℕ))). r >>= λ all. values_at end all bytes) (types_at-none stop types none))
+    ∙ ap (with_front front) (ap (λ (r : Read (List (ℕ × ℕ))). r >>= λ all. values_at end all bytes) (types_at-none stop types none))
     ∙ ap (λ (l : List Value). Ok (l, bytes)) (append-nil front)

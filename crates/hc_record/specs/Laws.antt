@@ -6,7 +6,7 @@ use Rattle.hc_value.specs.Values.{IsValue, AreValues}
 use Rattle.hc_record.specs.Record.{encoding, type_of, body_of}
 use Rattle.hc_record.specs.Reading.{number_at, value_at, record_at, reading}
 use Rattle.hc_record.specs.declared.fault.RecordFault.TheVariants.{Bad}
-use Rattle.hc_record.specs.declared.fault.RecordKind.TheVariants.{Tail}
+use Rattle.hc_record.specs.declared.fault.RecordKind.TheVariants.{Short, Tail}
 
 -- No encoding is the beginning of another: equal bytes are those of one list, and it ends at one place. So
 -- two lists have two encodings.
@@ -27,12 +27,18 @@ IsBodyReadAgain = (end place : ℕ) (v : Value) (rest : List ℕ) → IsValue v 
 abbrev pub IsRecordReadAgain : Type 0
 IsRecordReadAgain = (v : List Value) (rest : List ℕ) → AreValues v → length (encoding v) < 2 ^ 32 → record_at (encoding v ++ rest) ≡ Ok (v, rest)
 
--- a record, and something behind it
+-- A proper prefix of a record is Short, at its length: whatever is cut off, the fault is where the bytes end.
+abbrev pub IsPrefixShort : Type 0
+IsPrefixShort =
+    (v : List Value) (front missing : List ℕ) → AreValues v → length (encoding v) < 2 ^ 32 → encoding v ≡ front ++ missing → 0 < length missing
+    → reading front ≡ Err (Bad (length front) Short)
+
+-- a record, and something after it
 abbrev pub HasTail : List ℕ → ℕ → Type 0
 HasTail bytes at = (v : List Value) × (rest : List ℕ) × AreValues v × (bytes ≡ encoding v ++ rest) × (rest ≢ []) × (at ≡ length (encoding v))
 
 -- A Tail is what follows a record, and is told where it begins.
-abbrev pub IsTailBehindRecord : Type 0
-IsTailBehindRecord =
+abbrev pub IsTailAfterRecord : Type 0
+IsTailAfterRecord =
     (bytes : List ℕ) (at : ℕ) → length bytes < 2 ^ 32 → ((i : ℕ) → slice_index bytes i < 2 ^ 8)
     → (reading bytes ≡ Err (Bad at Tail)) ↔ HasTail bytes at

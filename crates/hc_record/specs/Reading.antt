@@ -1,6 +1,6 @@
 -- How bytes are read as a record, and which fault they have: the first that is found from the left, where
 -- the header is tested whole before the bodies. An integer's fault of Spelling is found at its body and
--- told at its type; every other one is told where it is found. A place is how many bytes stand before it;
+-- reported at its type; every other one is reported where it is found. A place is how many bytes come before it;
 -- `end` is that of the end of all bytes. The faults are our own, and so is it that only the shortest
 -- varint and the writer's type are taken: SQLite's document has neither.
 use Rattle.std.specs.Prelude.{ℕ, zero, suc, ◌+◌, ◌-◌, ◌*◌, ◌%◌, ◌^◌, ◌==◌, ◌||◌, ◌≡◌, Bool, ℤ, pos, List, [], ◌∷◌, length, take, drop, fold, slice_index, Option, Some, None, Result, Ok, Err, IsOk, nat_lt, if◌then◌else◌}
@@ -12,7 +12,7 @@ use Rattle.hc_record.specs.declared.fault.RecordKind.{RecordKind}
 use Rattle.hc_record.specs.declared.fault.RecordKind.TheVariants.{Short, BadType, Spelling, Utf8, Tail}
 use Rattle.hc_record.specs.declared.fault.RecordFault.{RecordFault}
 use Rattle.hc_record.specs.declared.fault.RecordFault.TheVariants.{Bad, NoMemory}
-use Rattle.hc_record.specs.Varint.{varint_len, varint_behind}
+use Rattle.hc_record.specs.Varint.{varint_len, read_varint}
 use Rattle.hc_record.specs.Record.{body_len, type_of_int, header_len}
 
 -- a step, and the next one with what it gave; a fault ends the reading
@@ -31,7 +31,7 @@ number_among stop bytes None = fault stop Short
 number_among stop bytes (Some (n, rest)) = if length bytes == varint_len n + length rest then Ok (n, rest) else fault (stop - length bytes) Spelling
 
 unfoldable pub number_at : ℕ → List ℕ → Result (ℕ × List ℕ) RecordFault
-number_at stop bytes = number_among stop bytes (varint_behind 8 0 bytes)
+number_at stop bytes = number_among stop bytes (read_varint 8 0 bytes)
 
 -- no value has the types 7, 10 and 11
 abbrev pub is_bad : ℕ → Bool
@@ -86,7 +86,7 @@ values_at end (type ∷ types) bytes = value_at end type bytes >>= λ v. values_
 unfoldable pub values_of_types : ℕ → ℕ → List ℕ → List ℕ → Result (List Value × List ℕ) RecordFault
 values_of_types stop end types bytes = types_at stop types >>= λ all. values_at end all bytes
 
--- Behind a header's length: the types up to the header's end, and then the bodies. Where the bytes end
+-- After a header's length: the types up to the header's end, and then the bodies. Where the bytes end
 -- before the header does, and no type before it is at fault, they are Short.
 unfoldable pub columns_at : ℕ → ℕ → List ℕ → Result (List Value × List ℕ) RecordFault
 columns_at end size bytes =

@@ -26,7 +26,7 @@ varint n =
 
 -- the number at the front of the bytes and what follows it, in any form; none where the bytes end
 -- first. n is what the bytes before gave, and k how many more may be marked.
-abbrev pub varint_behind : ℕ → ℕ → List ℕ → Option (ℕ × List ℕ)
-varint_behind k n [] = None
-varint_behind zero n (b ∷ rest) = Some (n * 2 ^ 8 + b, rest)
-varint_behind (suc k) n (b ∷ rest) = if nat_lt b 128 then Some (n * 2 ^ 7 + b, rest) else varint_behind k (n * 2 ^ 7 + (b - 128)) rest
+abbrev pub read_varint : ℕ → ℕ → List ℕ → Option (ℕ × List ℕ)
+read_varint k n [] = None
+read_varint zero n (b ∷ rest) = Some (n * 2 ^ 8 + b, rest)
+read_varint (suc k) n (b ∷ rest) = if nat_lt b 128 then Some (n * 2 ^ 7 + b, rest) else read_varint k (n * 2 ^ 7 + (b - 128)) rest

@@ -61,7 +61,7 @@ fn record_at(alloc: Global, bytes: &[u8]) -> Result<(Items<Value>, &[u8]), Recor
     columns_at(alloc, size, rest, end)
 }
 
-// The values behind a header's length, with so many bytes of types.
+// The values after a header's length, with so many bytes of types.
 #[tactic(auto, unfolding(crate::specs::Reading::columns_at))]
 fn columns_at(
     alloc: Global,

@@ -4,7 +4,7 @@ ghost use Rattle.hc_record.specs.Record.{encoding, types_of, bodies_of, header_l
 
 use crate::serial::{push_body, serial_type};
 use crate::varint::{push_varint, varint_len};
-use hc_range::Bytes;
+use hc_text::Bytes;
 use hc_value::{NoMemory, Value};
 use std::alloc::Global;
 

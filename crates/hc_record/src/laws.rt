@@ -1,5 +1,5 @@
 // What holds of encodings.
-ghost use Rattle.hc_record.specs.Laws.{NoEncodingBeginsAnother, IsNumberReadAgain, IsBodyReadAgain, IsRecordReadAgain, IsTailBehindRecord};
+ghost use Rattle.hc_record.specs.Laws.{NoEncodingBeginsAnother, IsNumberReadAgain, IsBodyReadAgain, IsRecordReadAgain, IsTailAfterRecord, IsPrefixShort};
 
 /// Two lists have two encodings, and none of them begins the other.
 pub fn no_encoding_begins_another()
@@ -23,5 +23,10 @@ pub fn a_record_is_read_again()
 
 /// Bytes are told to be a tail exactly where they follow a record.
 pub fn a_tail_follows_a_record()
-    ensures { IsTailBehindRecord }
+    ensures { IsTailAfterRecord }
+{}
+
+/// Each proper prefix of a record is short, and its fault is where it ends.
+pub fn a_prefix_of_a_record_is_short()
+    ensures { IsPrefixShort }
 {}

@@ -34,9 +34,9 @@ fn value_len(v: &Value) -> u64
     ensures { result ≡ length (body_of v.now) }
 {
     match v {
-        Value::Null => 0,
         Value::Int(n) => body_len(int_type(*n)),
         Value::Text(text) => text.as_bytes().len() as u64,
         Value::Blob(blob) => blob.as_slice().len() as u64,
+        Value::Null => 0,
     }
 }

@@ -8,19 +8,13 @@
 mod decoding;
 mod encoding;
 mod fault;
-mod laws;
+pub mod laws;
 mod length;
 mod reader;
 mod serial;
-#[cfg(test)]
-mod tests;
 mod varint;
 
 pub use decoding::decode;
 pub use encoding::encode;
 pub use fault::{RecordFault, RecordKind};
-pub use laws::{
-    a_body_is_read_again, a_number_is_read_again, a_record_is_read_again, a_tail_follows_a_record,
-    no_encoding_begins_another,
-};
 pub use length::fits;

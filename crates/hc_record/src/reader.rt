@@ -60,7 +60,7 @@ pub fn test_types(bytes: &[u8], stop: u32) -> Result<(), RecordFault>
     Ok(())
 }
 
-/// A value of this type, which stands at `type_place`, and what follows its body.
+/// A value of this type, which is at `type_place`, and what follows its body.
 #[tactic(auto, unfolding(crate::specs::Reading::value_at))]
 pub fn value_at(
     alloc: Global,
@@ -78,7 +78,7 @@ pub fn value_at(
         return Err(bad(end, RecordKind::Short));
     }
     let (body, rest) = bytes.split_at(len as usize);
-    let v = value_of(alloc, serial, type_place, body, end - bytes.len() as u32)?;
+    let v = value_of(alloc, body, serial, type_place, end - bytes.len() as u32)?;
     Ok((v, rest))
 }
 
@@ -86,9 +86,9 @@ pub fn value_at(
 #[tactic(auto, unfolding(crate::specs::Reading::value_of, crate::specs::Record::body_len))]
 fn value_of(
     alloc: Global,
+    body: &[u8],
     serial: u64,
     type_place: u32,
-    body: &[u8],
     place: u32,
 ) -> Result<Value, RecordFault>
     requires { length body.now ≡ body_len serial }

@@ -1,4 +1,4 @@
-// The serial types of values and the bodies behind them.
+// The serial types of values and the bodies after them.
 ghost use Rattle.std.specs.Prelude.{◌≡◌, ◌++◌, ◌+◌, ◌-◌, ◌≤◌, ◌<◌, ◌^◌, length, OnOk};
 ghost use Rattle.hc_value.specs.Values.{IsValue};
 ghost use Rattle.hc_record.specs.Record.{body_len, type_of_int, type_of, body_of};
@@ -57,7 +57,7 @@ pub fn serial_type(v: &Value) -> u64
     }
 }
 
-/// Writes the body of a value behind what is there.
+/// Writes the body of a value after what is there.
 pub fn push_body(out: &mut Vec<u8>, v: &Value) -> Result<(), NoMemory>
     ensures { OnOk result (out.new.items ≡ out.old.items ++ body_of v.now) }
 {

@@ -1,7 +1,7 @@
 // Numbers in one to nine bytes.
 ghost use Rattle.std.specs.Prelude.{◌≡◌, ◌++◌, ◌≤◌, ◌^◌, ◌<◌, length, OnOk, IfSome};
 ghost use Rattle.std.specs.Option.{option_map};
-ghost use Rattle.hc_record.specs.Varint.{varint, varint_len, marked, varint_behind};
+ghost use Rattle.hc_record.specs.Varint.{varint, varint_len, marked, read_varint};
 
 use hc_value::NoMemory;
 
@@ -31,18 +31,17 @@ pub fn varint_len(n: u64) -> u64
     }
 }
 
-/// Writes a number behind what is there.
+/// Writes a number after what is there.
 pub fn push_varint(out: &mut Vec<u8>, n: u64) -> Result<(), NoMemory>
     ensures { OnOk result (out.new.items ≡ out.old.items ++ varint n) }
 {
     if n < 1 << 56 {
         push_marked(out, varint_len(n) - 1, n >> 7)?;
-        out.push((n % 128) as u8)?;
+        out.extend_from_slice(&[(n % 128) as u8])
     } else {
         push_marked(out, 8, n >> 8)?;
-        out.push((n % 256) as u8)?;
+        out.extend_from_slice(&[(n % 256) as u8])
     }
-    Ok(())
 }
 
 // Writes the low groups of seven bits, each marked.
@@ -60,7 +59,7 @@ fn push_marked(out: &mut Vec<u8>, groups: u64, n: u64) -> Result<(), NoMemory>
 
 /// The number at the front of the bytes, in any form, and what follows it.
 pub fn split_varint(bytes: &[u8]) -> Option<(u64, &[u8])>
-    ensures read { option_map (λ found. (found.0, found.1.now)) result ≡ varint_behind 8 0 bytes.now }
+    ensures read { option_map (λ found. (found.0, found.1.now)) result ≡ read_varint 8 0 bytes.now }
     ensures shorter { IfSome result (λ found. length found.1.now < length bytes.now) }
 {
     let mut n: u64 = 0;

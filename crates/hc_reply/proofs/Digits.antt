@@ -7,8 +7,8 @@ use Rattle.std.proofs.lemmas.Bool.{cases_lt}
 use Rattle.std.specs.Str.Parse.{digits_value_after, digits_value}
 use Rattle.std.specs.Char.{digit_value}
 use Rattle.std.proofs.lemmas.Fmt.{decimal_step, decimal_step_wide, decimal_digit, decimal_by_steps, decimal_injective, decimal_is_IsNumeral, decimal_is_IsNumeral_wide, decimal_nonempty, first_decimal}
-use Rattle.hc_reply.specs.Stops.{NoDigit, SameFirst, IsStuck}
-use Rattle.hc_reply.proofs.Following.{IsPrefixFree, no_digit_there, same_byte}
+use Rattle.hc_reply.specs.Mismatches.{NoDigit, SameFirst, IsMismatch}
+use Rattle.hc_reply.proofs.FirstBytes.{IsPrefixFree, no_digit_there, same_byte}
 use Rattle.hc_reply.specs.Numbers.{IsWithin, BeginsWith, SomeBegins, NoneBegins}
 
 -- a byte from 48 to 57
@@ -20,7 +20,7 @@ abbrev pub AreDigits : List ℕ → Type 0
 AreDigits [] = Unit {0}
 AreDigits (c ∷ cs) = IsDigit c × AreDigits cs
 
--- digits with one more behind them are digits
+-- digits with one more after them are digits
 digits_more : (cs : List ℕ) (d : ℕ) → AreDigits cs → d < 10 → AreDigits (cs ++ (48 + d) ∷ [])
 digits_more [] d are small = ((omega arith, omega arith), tt)
 digits_more (c ∷ cs) d are small = (are.0, digits_more cs d are.1 small)
@@ -37,14 +37,14 @@ no_digit_first c rest (inl low) is = omega (arith, is.0)
 no_digit_first c rest (inr high) is = omega (arith, is.1)
 
 -- digits that go on to a digit of the other side go on with it
-pub covers : (xs behind ds : List ℕ) (c : ℕ) (o : List ℕ) → AreDigits ds → IsDigit c → NoDigit behind → xs ++ behind ≡ ds ++ c ∷ o → (more : List ℕ) × (xs ≡ ds ++ c ∷ more)
-covers [] behind [] c o are is nd e = absurd (no_digit_first c o (subst NoDigit e nd) is)
-covers [] behind (d ∷ ds) c o are is nd e = absurd (no_digit_first d (ds ++ c ∷ o) (subst NoDigit e nd) are.0)
-covers (x ∷ xs) behind [] c o are is nd e = let first : x ≡ c = cc in (xs, ap (λ (k : ℕ). k ∷ xs) first)
-covers (x ∷ xs) behind (d ∷ ds) c o are is nd e =
+pub covers : (xs following ds : List ℕ) (c : ℕ) (o : List ℕ) → AreDigits ds → IsDigit c → NoDigit following → xs ++ following ≡ ds ++ c ∷ o → (more : List ℕ) × (xs ≡ ds ++ c ∷ more)
+covers [] following [] c o are is nd e = absurd (no_digit_first c o (subst NoDigit e nd) is)
+covers [] following (d ∷ ds) c o are is nd e = absurd (no_digit_first d (ds ++ c ∷ o) (subst NoDigit e nd) are.0)
+covers (x ∷ xs) following [] c o are is nd e = let first : x ≡ c = cc in (xs, ap (λ (k : ℕ). k ∷ xs) first)
+covers (x ∷ xs) following (d ∷ ds) c o are is nd e =
     let first : x ≡ d = cc in
-    let rest : xs ++ behind ≡ ds ++ c ∷ o = cc in
-    let more = covers xs behind ds c o are.1 is nd rest in
+    let rest : xs ++ following ≡ ds ++ c ∷ o = cc in
+    let more = covers xs following ds c o are.1 is nd rest in
     (more.0, (λ i. first i ∷ more.1 i))
 
 -- digits end where no digit follows
@@ -93,12 +93,12 @@ shorter_begins n m small above ten begins = by (last_of begins.0)
           (sym (decimal_step n ten small) ∙ begins.1 ∙ ap (λ (l : List ℕ). decimal m ++ l) some.2 ∙ sym (append_assoc (decimal m) some.0 (some.1 ∷ []))),
     )
 
--- the value of digits behind others, by the value of those
+-- the value of digits after others, by the value of those
 value_after : (a : ℕ) (xs ys : List ℕ) → digits_value_after 10 a (xs ++ ys) ≡ digits_value_after 10 (digits_value_after 10 a xs) ys
 value_after a [] ys = refl
 value_after a (x ∷ xs) ys = value_after (a * 10 + digit_value x) xs ys
 
--- digits behind a number make it no less
+-- digits after a number make it no less
 value_grows : (n : ℕ) (ds : List ℕ) → n ≤ digits_value_after 10 n ds
 value_grows n [] = omega arith
 value_grows n (c ∷ cs) = omega (arith, value_grows (n * 10 + digit_value c) cs)
@@ -173,9 +173,9 @@ none_longer m low high small below none n is begins = by (cases_lt n 10)
 -- ---- a reader of digits, over its bytes
 
 module _ (low high : ℕ) (le : low ≤ high) (small : high < 2 ^ 64) where
-  -- a stop in a number of the range
-  abbrev Stuck : List ℕ → List ℕ → Type 0
-  Stuck bytes rest = IsStuck NoDigit (IsWithin low high) decimal bytes rest
+  -- a mismatch in a number of the range
+  abbrev Mismatched : List ℕ → List ℕ → Type 0
+  Mismatched bytes rest = IsMismatch NoDigit (IsWithin low high) decimal bytes rest
 
   -- a number of the range has 64 bits
   fits : (v : ℕ) → IsWithin low high v → v < 2 ^ 64
@@ -187,9 +187,9 @@ module _ (low high : ℕ) (le : low ≤ high) (small : high < 2 ^ 64) where
       let both = same_digits (decimal v) (decimal w) r s (decimal_digits v (fits v isv)) (decimal_digits w (fits w isw)) nr ns e in
       (decimal_injective v w (fits v isv) (fits w isw) both.0, both.1)
 
-  -- a stop at the first byte
-  stuck_at_start : (bytes : List ℕ) → ((v : ℕ) (behind other : List ℕ) → IsWithin low high v → NoDigit behind → SameFirst bytes other → decimal v ++ behind ≡ other → ⊥) → Stuck bytes bytes
-  stuck_at_start bytes none = record {
+  -- a mismatch at the first byte
+  mismatch_at_start : (bytes : List ℕ) → ((v : ℕ) (following other : List ℕ) → IsWithin low high v → NoDigit following → SameFirst bytes other → decimal v ++ following ≡ other → ⊥) → Mismatched bytes bytes
+  mismatch_at_start bytes none = record {
     before = [];
     splits = refl;
     value = low;
@@ -199,10 +199,10 @@ module _ (low high : ℕ) (le : low ≤ high) (small : high < 2 ^ 64) where
     none = none;
   }
 
-  -- a stop behind digits with which some number of the range begins
-  stuck_behind : (n : ℕ) (bytes rest : List ℕ) → bytes ≡ decimal n ++ rest → SomeBegins n low high
-      → ((v : ℕ) (behind other : List ℕ) → IsWithin low high v → NoDigit behind → SameFirst rest other → decimal v ++ behind ≡ decimal n ++ other → ⊥) → Stuck bytes rest
-  stuck_behind n bytes rest all some none = record {
+  -- a mismatch after digits with which some number of the range begins
+  mismatch_after : (n : ℕ) (bytes rest : List ℕ) → bytes ≡ decimal n ++ rest → SomeBegins n low high
+      → ((v : ℕ) (following other : List ℕ) → IsWithin low high v → NoDigit following → SameFirst rest other → decimal v ++ following ≡ decimal n ++ other → ⊥) → Mismatched bytes rest
+  mismatch_after n bytes rest all some none = record {
     before = decimal n;
     splits = all;
     value = some.0;
@@ -212,51 +212,51 @@ module _ (low high : ℕ) (le : low ≤ high) (small : high < 2 ^ 64) where
     none = none;
   }
 
-  -- a stop where no digit stands
-  pub stuck_without_digit : (bytes : List ℕ) → NoDigit bytes → Stuck bytes bytes
-  stuck_without_digit bytes nd = stuck_at_start bytes (λ v behind other is ends same e. wrong v (decimal v) refl behind other is (no_digit_there bytes other same nd) e)
+  -- a mismatch where no digit is
+  pub mismatch_without_digit : (bytes : List ℕ) → NoDigit bytes → Mismatched bytes bytes
+  mismatch_without_digit bytes nd = mismatch_at_start bytes (λ v following other is ends same e. wrong v (decimal v) refl following other is (no_digit_there bytes other same nd) e)
     where
-      wrong : (v : ℕ) (ds : List ℕ) → decimal v ≡ ds → (behind other : List ℕ) → IsWithin low high v → NoDigit other → decimal v ++ behind ≡ other → ⊥
-      wrong v [] is behind other within none e = omega (arith, decimal_nonempty v (fits v within), ap length is)
-      wrong v (c ∷ ds) is behind other within none e =
-          no_digit_first c (ds ++ behind) (subst NoDigit (sym e ∙ ap (λ (l : List ℕ). l ++ behind) is) none) (first_digit v c ds (fits v within) is)
+      wrong : (v : ℕ) (ds : List ℕ) → decimal v ≡ ds → (following other : List ℕ) → IsWithin low high v → NoDigit other → decimal v ++ following ≡ other → ⊥
+      wrong v [] is following other within none e = omega (arith, decimal_nonempty v (fits v within), ap length is)
+      wrong v (c ∷ ds) is following other within none e =
+          no_digit_first c (ds ++ following) (subst NoDigit (sym e ∙ ap (λ (l : List ℕ). l ++ following) is) none) (first_digit v c ds (fits v within) is)
 
-  -- a stop at a first digit with which no number of the range begins
-  pub stuck_at_first : (d : ℕ) (bytes behind : List ℕ) → d < 10 → bytes ≡ (48 + d) ∷ behind → NoneBegins d low high → Stuck bytes bytes
-  stuck_at_first d bytes behind one all nd = stuck_at_start bytes (λ v after other is ends same e.
-      let o = same_byte (48 + d) behind other (subst (λ (l : List ℕ). SameFirst l other) all same) in
+  -- a mismatch at a first digit with which no number of the range begins
+  pub mismatch_at_first : (d : ℕ) (bytes following : List ℕ) → d < 10 → bytes ≡ (48 + d) ∷ following → NoneBegins d low high → Mismatched bytes bytes
+  mismatch_at_first d bytes following one all nd = mismatch_at_start bytes (λ v after other is ends same e.
+      let o = same_byte (48 + d) following other (subst (λ (l : List ℕ). SameFirst l other) all same) in
       let c = covers (decimal v) after [] (48 + d) o.0 tt (omega arith, omega arith) ends (e ∙ o.1) in
       nd v is (c.0, c.1 ∙ ap (λ (l : List ℕ). l ++ c.0) (sym (decimal_digit d one))))
 
-  -- no number has a digit behind a first zero
-  no_more_behind_zero : (v : ℕ) (c : ℕ) (more : List ℕ) → v < 2 ^ 64 → decimal v ≡ 48 ∷ c ∷ more → ⊥
-  no_more_behind_zero zero c more fit e = omega (arith, ap length (sym (decimal_digit 0 (omega arith)) ∙ e))
-  no_more_behind_zero (suc v) c more fit e = omega (arith, ap (λ (l : List ℕ). get_or l 0 0) e, first_decimal (suc v) (omega arith) fit)
+  -- no number has a digit after a first zero
+  no_more_after_zero : (v : ℕ) (c : ℕ) (more : List ℕ) → v < 2 ^ 64 → decimal v ≡ 48 ∷ c ∷ more → ⊥
+  no_more_after_zero zero c more fit e = omega (arith, ap length (sym (decimal_digit 0 (omega arith)) ∙ e))
+  no_more_after_zero (suc v) c more fit e = omega (arith, ap (λ (l : List ℕ). get_or l 0 0) e, first_decimal (suc v) (omega arith) fit)
 
-  -- one digit more, behind a number above zero
-  digit_behind : (n d : ℕ) → 0 < n → n < 2 ^ 64 → d < 10 → decimal (n * 10 + d) ≡ decimal n ++ (48 + d) ∷ []
-  digit_behind n d some fit one =
+  -- one digit more, after a number above zero
+  digit_after : (n d : ℕ) → 0 < n → n < 2 ^ 64 → d < 10 → decimal (n * 10 + d) ≡ decimal n ++ (48 + d) ∷ []
+  digit_after n d some fit one =
       let front : (n * 10 + d) / 10 ≡ n = omega arith in
       let end : 48 + (n * 10 + d) % 10 ≡ 48 + d = omega arith in
       decimal_step_wide (n * 10 + d) (omega arith) (omega arith) ∙ (λ i. decimal (front i) ++ (end i ∷ []))
 
-  -- a stop at a further digit: behind a zero, or where no number of the range begins so
-  pub stuck_at_digit : (n d : ℕ) (bytes rest behind : List ℕ) → n < 2 ^ 64 → d < 10 → bytes ≡ decimal n ++ rest → rest ≡ (48 + d) ∷ behind → SomeBegins n low high
-      → (0 < n → NoneBegins (n * 10 + d) low high) → Stuck bytes rest
-  stuck_at_digit n d bytes rest behind fit one all first some nd = stuck_behind n bytes rest all some (λ v after other is ends same e.
-      let o = same_byte (48 + d) behind other (subst (λ (l : List ℕ). SameFirst l other) first same) in
+  -- a mismatch at a further digit: after a zero, or where no number of the range begins so
+  pub mismatch_at_digit : (n d : ℕ) (bytes rest following : List ℕ) → n < 2 ^ 64 → d < 10 → bytes ≡ decimal n ++ rest → rest ≡ (48 + d) ∷ following → SomeBegins n low high
+      → (0 < n → NoneBegins (n * 10 + d) low high) → Mismatched bytes rest
+  mismatch_at_digit n d bytes rest following fit one all first some nd = mismatch_after n bytes rest all some (λ v after other is ends same e.
+      let o = same_byte (48 + d) following other (subst (λ (l : List ℕ). SameFirst l other) first same) in
       let c = covers (decimal v) after (decimal n) (48 + d) o.0 (decimal_digits n fit) (omega arith, omega arith) ends (e ∙ ap (λ (l : List ℕ). decimal n ++ l) o.1) in
       by n refl v is c.0 c.1)
     where
       by : (k : ℕ) → k ≡ n → (v : ℕ) → IsWithin low high v → (more : List ℕ) → decimal v ≡ decimal n ++ (48 + d) ∷ more → ⊥
-      by zero k v is more e = no_more_behind_zero v (48 + d) more (fits v is) (e ∙ ap (λ (m : ℕ). decimal m ++ (48 + d) ∷ more) (sym k) ∙ ap (λ (l : List ℕ). l ++ (48 + d) ∷ more) (decimal_digit 0 (omega arith)))
+      by zero k v is more e = no_more_after_zero v (48 + d) more (fits v is) (e ∙ ap (λ (m : ℕ). decimal m ++ (48 + d) ∷ more) (sym k) ∙ ap (λ (l : List ℕ). l ++ (48 + d) ∷ more) (decimal_digit 0 (omega arith)))
       by (suc j) k v is more e =
           let above : 0 < n = omega arith in
-          nd above v is (more, e ∙ sym (append_assoc (decimal n) ((48 + d) ∷ []) more) ∙ ap (λ (l : List ℕ). l ++ more) (sym (digit_behind n d above fit one)))
+          nd above v is (more, e ∙ sym (append_assoc (decimal n) ((48 + d) ∷ []) more) ∙ ap (λ (l : List ℕ). l ++ more) (sym (digit_after n d above fit one)))
 
-  -- a stop where the digits end below the range
-  pub stuck_too_low : (n : ℕ) (bytes rest : List ℕ) → n < 2 ^ 64 → bytes ≡ decimal n ++ rest → NoDigit rest → SomeBegins n low high → n < low → Stuck bytes rest
-  stuck_too_low n bytes rest fit all nd some below = stuck_behind n bytes rest all some (λ v after other is ends same e.
+  -- a mismatch where the digits end below the range
+  pub mismatch_too_low : (n : ℕ) (bytes rest : List ℕ) → n < 2 ^ 64 → bytes ≡ decimal n ++ rest → NoDigit rest → SomeBegins n low high → n < low → Mismatched bytes rest
+  mismatch_too_low n bytes rest fit all nd some below = mismatch_after n bytes rest all some (λ v after other is ends same e.
       let both = same_digits (decimal v) (decimal n) after other (decimal_digits v (fits v is)) (decimal_digits n fit) ends (no_digit_there rest other same nd) e in
       omega (arith, decimal_injective v n (fits v is) fit both.0, is.0))
 
@@ -265,11 +265,11 @@ module _ (low high : ℕ) (le : low ≤ high) (small : high < 2 ^ 64) where
   within_high n fit some = omega (arith, some.1.1, begins_above some.0 n (fits some.0 some.1) fit some.2)
 
   -- with one digit more, the bytes begin with the longer number
-  pub one_more : (n d longer : ℕ) (bytes rest behind : List ℕ) → 0 < n → n < 2 ^ 64 → d < 10 → longer ≡ n * 10 + d → bytes ≡ decimal n ++ rest → rest ≡ (48 + d) ∷ behind → bytes ≡ decimal longer ++ behind
-  one_more n d longer bytes rest behind some fit one is all first =
-      all ∙ ap (λ (l : List ℕ). decimal n ++ l) first ∙ sym (append_assoc (decimal n) ((48 + d) ∷ []) behind)
-      ∙ ap (λ (l : List ℕ). l ++ behind) (sym (digit_behind n d some fit one) ∙ ap decimal (sym is))
+  pub one_more : (n d longer : ℕ) (bytes rest following : List ℕ) → 0 < n → n < 2 ^ 64 → d < 10 → longer ≡ n * 10 + d → bytes ≡ decimal n ++ rest → rest ≡ (48 + d) ∷ following → bytes ≡ decimal longer ++ following
+  one_more n d longer bytes rest following some fit one is all first =
+      all ∙ ap (λ (l : List ℕ). decimal n ++ l) first ∙ sym (append_assoc (decimal n) ((48 + d) ∷ []) following)
+      ∙ ap (λ (l : List ℕ). l ++ following) (sym (digit_after n d some fit one) ∙ ap decimal (sym is))
 
 -- bytes that begin with a digit begin with its number
-pub one_digit : (d : ℕ) (bytes behind : List ℕ) → d < 10 → bytes ≡ (48 + d) ∷ behind → bytes ≡ decimal d ++ behind
-one_digit d bytes behind one all = all ∙ ap (λ (l : List ℕ). l ++ behind) (sym (decimal_digit d one))
+pub one_digit : (d : ℕ) (bytes following : List ℕ) → d < 10 → bytes ≡ (48 + d) ∷ following → bytes ≡ decimal d ++ following
+one_digit d bytes following one all = all ∙ ap (λ (l : List ℕ). l ++ following) (sym (decimal_digit d one))

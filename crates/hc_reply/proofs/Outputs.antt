@@ -3,27 +3,27 @@ use Rattle.std.proofs.Common.{◌≡◌, ◌∙◌, ap, ℕ, ◌+◌, ◌-◌, �
 use Rattle.std.proofs.lemmas.Bool.{cases_lt}
 use Rattle.std.proofs.lemmas.Grind.{flat_map-append}
 use Rattle.std.proofs.lemmas.List.{append-nil, length-append}
-use Rattle.hc_reply.specs.declared.item.Item.{Item}
-use Rattle.hc_reply.specs.declared.reply.Transcript.{Transcript}
-use Rattle.hc_reply.specs.declared.progress.Progress.{Progress}
-use Rattle.hc_reply.specs.declared.turn.Turn.{Turn}
-use Rattle.hc_reply.specs.declared.stop.Stop.{Stop}
-use Rattle.hc_reply.specs.declared.stop.Stop.TheVariants as stops
+use Rattle.hc_transcript.specs.declared.reply.Transcript.{Transcript}
+use Rattle.hc_transcript.specs.Text.{output_text}
+use Rattle.hc_transcript.specs.Outputs.{AreTranscripts, IsOutput, BeginsOutput, NoOutputGoesOn, IsFaultAt}
+use Rattle.hc_reply.specs.declared.allowed.Allowed.{Allowed}
+use Rattle.hc_reply.specs.declared.mismatch.Mismatch.{Mismatch}
+use Rattle.hc_reply.specs.declared.mismatch.Mismatch.TheVariants as mismatch
 use Rattle.hc_reply.specs.declared.fault.ReplyFault.TheVariants as fault
-use Rattle.hc_reply.specs.Items.{IsItem, item_text}
-use Rattle.hc_reply.specs.Output.{output_text}
-use Rattle.hc_reply.specs.Reading.{AreTranscripts, IsOutput, BeginsOutput, NoOutputGoesOn, IsFaultAt, IsReplyFault}
-use Rattle.hc_reply.specs.Progress.{start, finish, step, is_whole, low_of, turn_of, fault_of}
-use Rattle.hc_reply.specs.Stops.{Anything, IsStuck, SameFirst, StopsIn}
+use Rattle.hc_reply.specs.declared.output_line.OutputLine.{OutputLine}
+use Rattle.hc_reply.specs.declared.parser_state.ParserState.{ParserState}
+use Rattle.hc_reply.specs.Lines.{IsExpected, output_line_text}
+use Rattle.hc_reply.specs.ParserStates.{start, finish, step, is_whole, low_of, allowed_of}
+use Rattle.hc_reply.specs.Faults.{IsReplyFault, fault_of}
+use Rattle.hc_reply.specs.Mismatches.{Anything, IsMismatch, SameFirst, MismatchIn}
 use Rattle.hc_reply.specs.Laws.{OutputsDiffer, OneSpelling, OneFault, OutputsHaveNoFault}
-use Rattle.hc_reply.proofs.ReadSoFar.{MayFollow, Leads, lines_text}
-use Rattle.hc_reply.proofs.Steps.{start_is, finished_text, finished}
-use Rattle.hc_reply.proofs.Leading.{leads_is, leads_on, leads_split, leads_fitting, completes, cut, item_long}
+use Rattle.hc_reply.proofs.States.{MayFollow, start_is, finished_text, finished}
+use Rattle.hc_reply.proofs.Leading.{Leads, lines_text, leads_is, leads_on, leads_split, leads_fitting, completes, cut, line_long}
 use Rattle.hc_reply.proofs.Transcripts.{all_lines, whole_leads}
 
 -- the lines that were read, and that they led here
-pub record IsRead (bytes rest : List ℕ) (p : Progress) : Type 0 where
-  pub lines : List Item
+pub record IsRead (bytes rest : List ℕ) (p : ParserState) : Type 0 where
+  pub lines : List OutputLine
   pub leads : Leads start lines p
   pub all : bytes ≡ lines_text lines ++ rest
 
@@ -35,17 +35,17 @@ by_lines ts are =
     ap output_text (sym w.3) ∙ finished_text w.0 is.0 w.2 ∙ is.1
 
 -- an output that begins with these lines goes on with others
-goes_on : (lines : List Item) (p : Progress) → Leads start lines p → (ts : List Transcript) → AreTranscripts ts → (more : List ℕ) → output_text ts ≡ lines_text lines ++ more
-    → (zs : List Item) × (q : Progress) × Leads p zs q × (is_whole q ≡ true) × (finish q ≡ ts) × (more ≡ lines_text zs)
+goes_on : (lines : List OutputLine) (p : ParserState) → Leads start lines p → (ts : List Transcript) → AreTranscripts ts → (more : List ℕ) → output_text ts ≡ lines_text lines ++ more
+    → (zs : List OutputLine) × (q : ParserState) × Leads p zs q × (is_whole q ≡ true) × (finish q ≡ ts) × (more ≡ lines_text zs)
 goes_on lines p leads ts are more e =
     let w = whole_leads ts are in
     let c = cut (all_lines ts) lines more (leads_fitting start (all_lines ts) w.0 w.1) (leads_fitting start lines p leads) (sym (by_lines ts are) ∙ e) in
-    (c.0, w.0, leads_split start lines c.0 p w.0 (subst (λ (l : List Item). Leads start l w.0) c.1 w.1) leads, w.2, w.3, c.2)
+    (c.0, w.0, leads_split start lines c.0 p w.0 (subst (λ (l : List OutputLine). Leads start l w.0) c.1 w.1) leads, w.2, w.3, c.2)
 
 -- only no lines have no text
-no_lines : (zs : List Item) → [] ≡ lines_text zs → zs ≡ []
+no_lines : (zs : List OutputLine) → [] ≡ lines_text zs → zs ≡ []
 no_lines [] e = refl
-no_lines (z ∷ zs) e = absurd (omega (arith, item_long z, ap length e, length-append (item_text z) (lines_text zs)))
+no_lines (z ∷ zs) e = absurd (omega (arith, line_long z, ap length e, length-append (output_line_text z) (lines_text zs)))
 
 -- transcripts have one text, as the law says it
 pub one_spelling : OneSpelling
@@ -56,7 +56,7 @@ pub outputs_differ : OutputsDiffer
 outputs_differ one other a b e =
     let w = whole_leads other b in
     let g = goes_on (all_lines other) w.0 w.1 one a [] (e ∙ by_lines other b ∙ sym (append-nil (lines_text (all_lines other)))) in
-    let same : w.0 ≡ g.1 = subst (λ (l : List Item). Leads w.0 l g.1) (no_lines g.0 g.5) g.2 in
+    let same : w.0 ≡ g.1 = subst (λ (l : List OutputLine). Leads w.0 l g.1) (no_lines g.0 g.5) g.2 in
     sym g.4 ∙ ap finish (sym same) ∙ w.3
 
 -- an output has no fault, as the law says it
@@ -68,14 +68,14 @@ no_fault bytes at output fault = by fault.1 fault.2 fault.5
     by (b ∷ after) all none = none (after, subst IsOutput (all ∙ sym (append_assoc fault.0 (b ∷ []) after)) output)
 
 -- the lines are an output, where nothing is left open
-pub is_output : (lines : List Item) (p : Progress) → Leads start lines p → is_whole p ≡ true → AreTranscripts (finish p) × (lines_text lines ≡ output_text (finish p))
+pub is_output : (lines : List OutputLine) (p : ParserState) → Leads start lines p → is_whole p ≡ true → AreTranscripts (finish p) × (lines_text lines ≡ output_text (finish p))
 is_output lines p leads whole =
     let is = leads_is start lines p start_is leads in
     (finished p is.0 whole, sym is.1 ∙ sym (finished_text p is.0 whole))
 
-module _ (lines : List Item) (p : Progress) (leads : Leads start lines p) (bytes rest : List ℕ) (all : bytes ≡ lines_text lines ++ rest) where
+module _ (lines : List OutputLine) (p : ParserState) (leads : Leads start lines p) (bytes rest : List ℕ) (all : bytes ≡ lines_text lines ++ rest) where
   -- the lines and the front of one that may follow begin an output
-  begins : (line : Item) (before more : List ℕ) → MayFollow p line → item_text line ≡ before ++ more → BeginsOutput (lines_text lines ++ before)
+  begins : (line : OutputLine) (before more : List ℕ) → MayFollow p line → output_line_text line ≡ before ++ more → BeginsOutput (lines_text lines ++ before)
   begins line before more may e =
       let c = completes (step p line) in
       let whole = leads_on start lines (line ∷ c.0) p c.1 leads (may, c.2) in
@@ -84,15 +84,15 @@ module _ (lines : List Item) (p : Progress) (leads : Leads start lines p) (bytes
         (
           finish c.1,
           out.0,
-          sym out.1 ∙ flat_map-append item_text lines (line ∷ c.0)
+          sym out.1 ∙ flat_map-append output_line_text lines (line ∷ c.0)
               ∙ ap (λ (l : List ℕ). lines_text lines ++ (l ++ lines_text c.0)) e
               ∙ ap (λ (l : List ℕ). lines_text lines ++ l) (append_assoc before more (lines_text c.0))
               ∙ sym (append_assoc (lines_text lines) before (more ++ lines_text c.0)),
         ),
       )
 
-  -- where a line's reader stops, the output is at fault
-  pub fault_there : (rest ≡ [] → is_whole p ≡ true → ⊥) → (stop : List ℕ) → IsStuck Anything (IsItem (turn_of p) (low_of p)) item_text rest stop → IsFaultAt bytes (length bytes - length stop)
+  -- where a line has a mismatch, the output is at fault
+  pub fault_there : (rest ≡ [] → is_whole p ≡ true → ⊥) → (stop : List ℕ) → IsMismatch Anything (IsExpected (allowed_of p) (low_of p)) output_line_text rest stop → IsFaultAt bytes (length bytes - length stop)
   fault_there unended stop s = (
     before,
     stop,
@@ -109,13 +109,13 @@ module _ (lines : List Item) (p : Progress) (leads : Leads start lines p) (bytes
       splits = all ∙ ap (λ (l : List ℕ). lines_text lines ++ l) s.splits ∙ sym (append_assoc (lines_text lines) s.before stop)
 
       None : List ℕ → Type 0
-      None end = (line : Item) (behind other : List ℕ) → MayFollow p line → Anything behind → SameFirst end other → item_text line ++ behind ≡ s.before ++ other → ⊥
+      None end = (line : OutputLine) (more other : List ℕ) → MayFollow p line → Anything more → SameFirst end other → output_line_text line ++ more ≡ s.before ++ other → ⊥
 
-      at_end : rest ≡ s.before ++ [] → None [] → (zs : List Item) (q : Progress) → Leads p zs q → is_whole q ≡ true → s.before ≡ lines_text zs → ⊥
+      at_end : rest ≡ s.before ++ [] → None [] → (zs : List OutputLine) (q : ParserState) → Leads p zs q → is_whole q ≡ true → s.before ≡ lines_text zs → ⊥
       at_end here none [] q leads whole e = unended (here ∙ append-nil s.before ∙ e) (ap is_whole leads ∙ whole)
       at_end here none (z ∷ zs) q leads whole e = none z (lines_text zs) [] leads.0 tt tt (sym e ∙ sym (append-nil s.before))
 
-      at_byte : (b : ℕ) (after other : List ℕ) → None (b ∷ after) → (zs : List Item) (q : Progress) → Leads p zs q → s.before ++ b ∷ other ≡ lines_text zs → ⊥
+      at_byte : (b : ℕ) (after other : List ℕ) → None (b ∷ after) → (zs : List OutputLine) (q : ParserState) → Leads p zs q → s.before ++ b ∷ other ≡ lines_text zs → ⊥
       at_byte b after other none [] q leads e = omega (arith, ap length e, length-append s.before (b ∷ other))
       at_byte b after other none (z ∷ zs) q leads e = none z (lines_text zs) (b ∷ other) leads.0 tt refl (sym e)
 
@@ -131,26 +131,26 @@ module _ (lines : List Item) (p : Progress) (leads : Leads start lines p) (bytes
 
 -- ---- the loop's reader
 
-module _ (bytes rest : List ℕ) (p : Progress) (read : IsRead bytes rest p) where
-  -- a stop in the next line is a fault of the bytes, or a want of memory
-  pub stop_is_fault : (rest ≡ [] → is_whole p ≡ true → ⊥) → (stop : Stop) → StopsIn Anything (IsItem (turn_of p) (low_of p)) item_text rest stop → IsReplyFault bytes (fault_of (length bytes) stop)
-  stop_is_fault unended (stops.At end) s = fault_there read.lines p read.leads bytes rest read.all unended end.now s
-  stop_is_fault unended stops.NoMemory s = tt
+module _ (bytes rest : List ℕ) (p : ParserState) (read : IsRead bytes rest p) where
+  -- a mismatch in the next line is a fault of the bytes, or a refusal of memory
+  pub stop_is_fault : (rest ≡ [] → is_whole p ≡ true → ⊥) → (stop : Mismatch) → MismatchIn Anything (IsExpected (allowed_of p) (low_of p)) output_line_text rest stop → IsReplyFault bytes (fault_of (length bytes) stop)
+  stop_is_fault unended (mismatch.At end) s = fault_there read.lines p read.leads bytes rest read.all unended end.now s
+  stop_is_fault unended mismatch.NoMemory s = tt
 
-  -- in an output, a stop in the next line is a want of memory
-  pub fault_of_none : (rest ≡ [] → is_whole p ≡ true → ⊥) → (stop : Stop) → StopsIn Anything (IsItem (turn_of p) (low_of p)) item_text rest stop → (ts : List Transcript) → AreTranscripts ts
+  -- in an output, a mismatch in the next line is a refusal of memory
+  pub fault_of_none : (rest ≡ [] → is_whole p ≡ true → ⊥) → (stop : Mismatch) → MismatchIn Anything (IsExpected (allowed_of p) (low_of p)) output_line_text rest stop → (ts : List Transcript) → AreTranscripts ts
       → bytes ≡ output_text ts → fault_of (length bytes) stop ≡ fault.NoMemory
-  fault_of_none unended (stops.At end) s ts are e =
+  fault_of_none unended (mismatch.At end) s ts are e =
       absurd (no_fault bytes (length bytes - length end.now) (ts, are, sym e) (fault_there read.lines p read.leads bytes rest read.all unended end.now s))
-  fault_of_none unended stops.NoMemory s ts are e = refl
+  fault_of_none unended mismatch.NoMemory s ts are e = refl
 
   -- with a line that may follow, one line more was read
-  pub read_on : (line : Item) (left : List ℕ) (next : Progress) → MayFollow p line → rest ≡ item_text line ++ left → next ≡ step p line → IsRead bytes left next
+  pub read_on : (line : OutputLine) (left : List ℕ) (next : ParserState) → MayFollow p line → rest ≡ output_line_text line ++ left → next ≡ step p line → IsRead bytes left next
   read_on line left next may here is = record {
     lines = read.lines ++ line ∷ [];
     leads = leads_on start read.lines (line ∷ []) p next read.leads (may, sym is);
-    all = read.all ∙ ap (λ (l : List ℕ). lines_text read.lines ++ l) here ∙ sym (append_assoc (lines_text read.lines) (item_text line) left)
-        ∙ ap (λ (l : List ℕ). l ++ left) (ap (λ (l : List ℕ). lines_text read.lines ++ l) (sym (append-nil (item_text line))) ∙ sym (flat_map-append item_text read.lines (line ∷ [])));
+    all = read.all ∙ ap (λ (l : List ℕ). lines_text read.lines ++ l) here ∙ sym (append_assoc (lines_text read.lines) (output_line_text line) left)
+        ∙ ap (λ (l : List ℕ). l ++ left) (ap (λ (l : List ℕ). lines_text read.lines ++ l) (sym (append-nil (output_line_text line))) ∙ sym (flat_map-append output_line_text read.lines (line ∷ [])));
   }
 
   -- at the end, where nothing is left open, the bytes are the text of the transcripts
@@ -162,8 +162,8 @@ module _ (bytes rest : List ℕ) (p : Progress) (read : IsRead bytes rest p) whe
       )
 
 -- what holds at a turn and a least number holds at the same ones
-pub at_turn : (P : Turn → ℕ → Type 0) {t u : Turn} {m n : ℕ} → t ≡ u → m ≡ n → P t m → P u n
-at_turn P {t} {u} {m} {n} same low holds = subst (P u) low (subst (λ (s : Turn). P s m) same holds)
+pub at_turn : (P : Allowed → ℕ → Type 0) {t u : Allowed} {m n : ℕ} → t ≡ u → m ≡ n → P t m → P u n
+at_turn P {t} {u} {m} {n} same low holds = subst (P u) low (subst (λ (s : Allowed). P s m) same holds)
 
 -- ---- one fault
 

@@ -1,10 +1,8 @@
 -- What holds of all outputs.
-use Rattle.std.specs.Prelude.{◌≡◌, ◌++◌, ℕ, List}
-use Rattle.hc_reply.specs.declared.opening.Opening.{Opening}
-use Rattle.hc_reply.specs.declared.reply.Transcript.{Transcript}
-use Rattle.hc_reply.specs.Output.{output_text}
-use Rattle.hc_reply.specs.Reading.{AreTranscripts, IsOutput, IsTextOf, IsFaultAt}
-use Rattle.hc_reply.specs.Words.{opening_words}
+use Rattle.std.specs.Prelude.{◌≡◌, ℕ, List}
+use Rattle.hc_transcript.specs.declared.reply.Transcript.{Transcript}
+use Rattle.hc_transcript.specs.Text.{output_text}
+use Rattle.hc_transcript.specs.Outputs.{AreTranscripts, IsOutput, IsTextOf, IsFaultAt}
 
 -- an output is the text of one list of transcripts at most
 abbrev pub OutputsDiffer : Type 0
@@ -14,11 +12,6 @@ OutputsDiffer =
 -- transcripts have one text at most, since it is a function of them
 abbrev pub OneSpelling : Type 0
 OneSpelling = (one other : List ℕ) (transcripts : List Transcript) → IsTextOf one transcripts → IsTextOf other transcripts → one ≡ other
-
--- no opening begins another, whatever follows them
-abbrev pub NoOpeningBeginsAnother : Type 0
-NoOpeningBeginsAnother =
-    (one other : Opening) (behind more : List ℕ) → opening_words one ++ behind ≡ opening_words other ++ more → (one ≡ other) × (behind ≡ more)
 
 -- bytes are at fault at one place at most
 abbrev pub OneFault : Type 0

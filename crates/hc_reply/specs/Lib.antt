@@ -1,12 +1,10 @@
+pub mod Mismatches
 pub mod Words
-pub mod Openings
-pub mod Output
-pub mod Parts
-pub mod Items
 pub mod Numbers
-pub mod Reading
 pub mod Blobs
 pub mod Rows
-pub mod Stops
-pub mod Progress
+pub mod Fields
+pub mod Lines
+pub mod ParserStates
+pub mod Faults
 pub mod Laws

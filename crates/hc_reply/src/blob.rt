@@ -1,12 +1,14 @@
 // Blob literals, read digit by digit.
 ghost use Rattle.std.specs.Prelude.{◌≡◌, ℕ, ◌+◌, ◌<◌, ◌∷◌, ◌++◌, true, false, IfOk, IfErr, IfSome, IfNone};
+ghost use Rattle.hc_text.specs.Digits.{hex_digit};
+ghost use Rattle.hc_transcript.specs.Literals.{blob_literal};
 ghost use Rattle.hc_reply.specs.Blobs.{IsBlob, IsWithinLimit, NoHexDigit};
-ghost use Rattle.hc_reply.specs.Output.{blob_text, digit};
-ghost use Rattle.hc_reply.specs.Stops.{Anything, StopsIn};
+ghost use Rattle.hc_reply.specs.Mismatches.{Anything, MismatchIn};
 
-use crate::stop::Stop;
-use crate::text::behind_quote;
-use crate::word::behind_word;
+use crate::mismatch::Mismatch;
+use crate::text::after_quote;
+use crate::word::expect_word;
+use hc_text::upper_hex_value;
 use std::alloc::Global;
 
 /// A blob literal at the front of the bytes, with at most so many bytes, and what is left.
@@ -14,24 +16,24 @@ pub fn blob<'a>(
     alloc: Global,
     limit: Option<usize>,
     bytes: &'a [u8],
-) -> Result<(Vec<u8>, &'a [u8]), Stop<'a>>
-    ensures found { IfOk result (λ x. IsBlob limit x.0.items × (bytes.now ≡ blob_text x.0.items ++ x.1.now)) }
-    ensures stop { IfErr result (StopsIn Anything (IsBlob limit) blob_text bytes.now) }
+) -> Result<(Vec<u8>, &'a [u8]), Mismatch<'a>>
+    ensures found { IfOk result (λ x. IsBlob limit x.0.items × (bytes.now ≡ blob_literal x.0.items ++ x.1.now)) }
+    ensures stop { IfErr result (MismatchIn Anything (IsBlob limit) blob_literal bytes.now) }
 {
-    let mut rest = behind_word(b"X'", bytes)?;
+    let mut rest = expect_word(b"X'", bytes)?;
     let mut out = Vec::new(alloc);
-    while let Some((high, behind)) = hex_digit(rest) {
+    while let Some((high, after)) = hex_digit(rest) {
         if !has_room(limit, out.len()) {
-            return Err(Stop::At(rest));
+            return Err(Mismatch::At(rest));
         }
-        let Some((low, left)) = hex_digit(behind) else {
-            return Err(Stop::At(behind));
+        let Some((low, left)) = hex_digit(after) else {
+            return Err(Mismatch::At(after));
         };
         out.push(high * 16 + low)?;
         rest = left;
     }
-    let Some(left) = behind_quote(rest) else {
-        return Err(Stop::At(rest));
+    let Some(left) = after_quote(rest) else {
+        return Err(Mismatch::At(rest));
     };
     Ok((out, left))
 }
@@ -47,26 +49,12 @@ fn has_room(limit: Option<usize>, n: usize) -> bool
     }
 }
 
-// A digit at the front, and what is left.
+// The value of a digit at the front, and what is left.
 fn hex_digit(bytes: &[u8]) -> Option<(u8, &[u8])>
-    ensures some { IfSome result (λ x. (x.0 < 16) × (bytes.now ≡ digit x.0 ∷ x.1.now)) }
+    ensures some { IfSome result (λ x. (x.0 < 16) × (bytes.now ≡ hex_digit x.0 ∷ x.1.now)) }
     ensures none { IfNone result (NoHexDigit bytes.now) }
 {
     let (first, rest) = bytes.split_first()?;
-    let d = hex_value(*first)?;
-    Some((d, rest))
-}
-
-// What a byte stands for as a digit.
-fn hex_value(byte: u8) -> Option<u8>
-    ensures some { IfSome result (λ d. (d < 16) × (byte ≡ digit d)) }
-    ensures none { IfNone result ((d : ℕ) → d < 16 → byte ≡ digit d → ⊥) }
-{
-    if byte >= b'0' && byte <= b'9' {
-        return Some(byte - b'0');
-    }
-    if byte >= b'A' && byte <= b'F' {
-        return Some(byte - b'A' + 10);
-    }
-    None
+    let value = upper_hex_value(*first)?;
+    Some((value, rest))
 }

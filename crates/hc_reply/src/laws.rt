@@ -1,5 +1,7 @@
 // What holds of all outputs. Each law is the contract of a function that does nothing.
-ghost use Rattle.hc_reply.specs.Laws.{NoOpeningBeginsAnother, OneFault, OneSpelling, OutputsDiffer, OutputsHaveNoFault};
+ghost use Rattle.hc_reply.specs.Laws.{OneFault, OneSpelling, OutputsDiffer, OutputsHaveNoFault};
+
+pub use hc_transcript::laws::no_tag_begins_another;
 
 /// An output stands for one list of transcripts.
 pub fn outputs_differ()
@@ -9,11 +11,6 @@ pub fn outputs_differ()
 /// Transcripts have one text.
 pub fn one_spelling()
     ensures { OneSpelling }
-{}
-
-/// No line opens with the words of another line.
-pub fn no_opening_begins_another()
-    ensures { NoOpeningBeginsAnother }
 {}
 
 /// Bytes are at fault at one place at most.

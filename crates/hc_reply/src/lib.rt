@@ -1,46 +1,31 @@
-//! What a connection answers, and the text in which a run's answers are printed.
+//! The text of a run's transcripts, written and read again.
 //!
-//! `specs/Output.antt` is the output form, line by line. `print` writes exactly that text.
-//! `read` answers the transcripts whose text the bytes are, or the place where no output goes on, if
-//! no memory is refused. Transcripts that `print` takes, without an empty row, have one text, and no
-//! other such transcripts have it.
+//! `print` writes the text of transcripts, and `read` answers the transcripts whose text the bytes are, or the place
+//! where no output goes on, if no memory is refused. What `print` writes is read as what it was given. The types and
+//! the output form are those of `hc_transcript`, which are given out here too.
 #![tactic(auto)]
 
-mod behind;
+mod allowed;
 mod blob;
-mod ended;
+mod expected_tag;
 mod fault;
-mod item;
-mod laws;
-mod lines;
+mod fields;
+pub mod laws;
 mod literals;
+mod mismatch;
 mod number;
-mod opening;
-mod openings;
-mod pairs;
+mod output_line;
+mod parser_state;
+mod printed_refusal;
 mod printer;
-mod progress;
-#[cfg(test)]
-mod read_tests;
 mod reader;
-mod refusal;
-mod refusals;
-mod reply;
+mod refusal_fields;
 mod row;
-mod sameness;
-mod stop;
-#[cfg(test)]
-mod tests;
 mod text;
-mod turn;
 mod value;
 mod word;
 
 pub use fault::ReplyFault;
-pub use laws::{
-    no_opening_begins_another, one_fault, one_spelling, outputs_differ, outputs_have_no_fault,
-};
+pub use hc_transcript::{BoxedKey, Ending, Line, Refusal, Reply, Row, Transcript};
 pub use printer::print;
 pub use reader::read;
-pub use refusal::Refusal;
-pub use reply::{Ending, Line, Reply, Row, Transcript};

@@ -1,17 +1,19 @@
-// Values and numbers, written behind what is there.
+// Values, names and numbers as literals, appended to what is there.
 ghost use Rattle.std.specs.Prelude.{◌≡◌, ◌<◌, ◌++◌, OnOk};
 ghost use Rattle.std.specs.Str.{IsUtf8};
-ghost use Rattle.hc_reply.specs.Output.{quoted, digit, blob_text, value_text, values_text};
-ghost use Rattle.hc_reply.specs.Reading.{AreBytes, IsPrintable};
-ghost use Rattle.hc_reply.specs.Rows.{ArePrintable};
+ghost use Rattle.std.specs.List.{AllByRecursion};
+ghost use Rattle.hc_text.specs.Bytes.{AreBytes};
+ghost use Rattle.hc_transcript.specs.Literals.{text_literal, blob_literal, value_text, values_text, IsPrintable};
 
-use hc_value::{NoMemory, Str, Value, a_value_is_one};
+use hc_text::byte_digits;
+use hc_value::laws::a_value_is_one;
+use hc_value::{NoMemory, Str, Value};
 use itoa::{Buffer, Integer};
 
 /// Values with bars between them.
 pub fn print_values(out: &mut Vec<u8>, values: &[Value]) -> Result<(), NoMemory>
     ensures text { OnOk result (out.new.items ≡ out.old.items ++ values_text values.now) }
-    ensures printable { OnOk result (ArePrintable values.now) }
+    ensures printable { OnOk result (AllByRecursion IsPrintable values.now) }
 {
     let Some((first, others)) = values.split_first() else {
         return Ok(());
@@ -39,7 +41,7 @@ fn print_value(out: &mut Vec<u8>, value: &Value) -> Result<(), NoMemory>
 
 /// A text, or a name, as a text literal.
 pub fn print_text(out: &mut Vec<u8>, text: &Str) -> Result<(), NoMemory>
-    ensures text { OnOk result (out.new.items ≡ out.old.items ++ quoted text.now) }
+    ensures text { OnOk result (out.new.items ≡ out.old.items ++ text_literal text.now) }
     ensures utf8 { OnOk result (IsUtf8 text.now) }
 {
     out.push(b'\'')?;
@@ -55,24 +57,17 @@ pub fn print_text(out: &mut Vec<u8>, text: &Str) -> Result<(), NoMemory>
 
 /// Bytes as a blob literal.
 pub fn print_blob(out: &mut Vec<u8>, bytes: &[u8]) -> Result<(), NoMemory>
-    ensures text { OnOk result (out.new.items ≡ out.old.items ++ blob_text bytes.now) }
+    ensures text { OnOk result (out.new.items ≡ out.old.items ++ blob_literal bytes.now) }
     ensures bytes { OnOk result (AreBytes bytes.now) }
 {
     out.extend_from_slice(b"X'")?;
     for b in bytes {
-        out.push(hexadecimal(*b / 16))?;
-        out.push(hexadecimal(*b % 16))?;
+        let [high, low] = byte_digits(*b);
+        out.push(high)?;
+        out.push(low)?;
     }
     out.push(b'\'')?;
     Ok(())
-}
-
-// A digit in upper case.
-fn hexadecimal(d: u8) -> u8
-    requires { d < 16 }
-    ensures { result ≡ digit d }
-{
-    if d < 10 { b'0' + d } else { b'A' - 10 + d }
 }
 
 /// A number in decimal digits.

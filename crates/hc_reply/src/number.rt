@@ -1,33 +1,33 @@
 // Numbers in decimal digits, without leading zeros, within a range.
 ghost use Rattle.std.specs.Prelude.{◌≡◌, ◌+◌, ◌*◌, ◌<◌, ◌≤◌, ◌∷◌, ◌++◌, decimal, IfOk, IfErr, IfSome, IfNone, true, false};
 ghost use Rattle.hc_reply.specs.Numbers.{IsWithin, SomeBegins, NoneBegins};
-ghost use Rattle.hc_reply.specs.Stops.{NoDigit, StopsIn};
+ghost use Rattle.hc_reply.specs.Mismatches.{NoDigit, MismatchIn};
 
-use crate::stop::Stop;
+use crate::mismatch::Mismatch;
 
 /// A number within a range at the front of the bytes, and what is left.
-pub fn number(low: u64, high: u64, bytes: &[u8]) -> Result<(u64, &[u8]), Stop<'_>>
+pub fn number(low: u64, high: u64, bytes: &[u8]) -> Result<(u64, &[u8]), Mismatch<'_>>
     requires some { low ≤ high }
     ensures found { IfOk result (λ x. IsWithin low high x.0 × (bytes.now ≡ decimal x.0 ++ x.1.now) × NoDigit x.1.now) }
-    ensures stop { IfErr result (StopsIn NoDigit (IsWithin low high) decimal bytes.now) }
+    ensures stop { IfErr result (MismatchIn NoDigit (IsWithin low high) decimal bytes.now) }
 {
-    let Some((first, behind)) = digit(bytes) else {
-        return Err(Stop::At(bytes));
+    let Some((first, after)) = digit(bytes) else {
+        return Err(Mismatch::At(bytes));
     };
     let mut n = first;
-    let mut rest = behind;
+    let mut rest = after;
     if !begins_within(n, low, high) {
-        return Err(Stop::At(bytes));
+        return Err(Mismatch::At(bytes));
     }
-    while let Some((d, behind)) = digit(rest) {
+    while let Some((d, after)) = digit(rest) {
         let Some(longer) = with_digit(n, d, low, high) else {
-            return Err(Stop::At(rest));
+            return Err(Mismatch::At(rest));
         };
         n = longer;
-        rest = behind;
+        rest = after;
     }
     if n < low {
-        return Err(Stop::At(rest));
+        return Err(Mismatch::At(rest));
     }
     Ok((n, rest))
 }

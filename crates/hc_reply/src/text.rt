@@ -1,42 +1,42 @@
 // Text literals, read byte by byte.
 ghost use Rattle.std.specs.Prelude.{◌≡◌, ◌≢◌, ◌⊎◌, ◌∷◌, ◌++◌, IfOk, IfErr, IfSome, IfNone};
 ghost use Rattle.std.specs.Str.{IsUtf8};
-ghost use Rattle.hc_reply.specs.Output.{quoted};
-ghost use Rattle.hc_reply.specs.Stops.{NoQuote, StopsIn};
+ghost use Rattle.hc_transcript.specs.Literals.{text_literal};
+ghost use Rattle.hc_reply.specs.Mismatches.{NoQuote, MismatchIn};
 
-use crate::stop::Stop;
+use crate::mismatch::Mismatch;
 use hc_value::{Expected, Str, next_expected};
 use std::alloc::Global;
 
 /// A text literal at the front of the bytes, and what is left.
-pub fn text<'a>(alloc: Global, bytes: &'a [u8]) -> Result<(Str, &'a [u8]), Stop<'a>>
-    ensures found { IfOk result (λ x. IsUtf8 x.0 × (bytes.now ≡ quoted x.0 ++ x.1.now) × NoQuote x.1.now) }
-    ensures stop { IfErr result (StopsIn NoQuote IsUtf8 quoted bytes.now) }
+pub fn text<'a>(alloc: Global, bytes: &'a [u8]) -> Result<(Str, &'a [u8]), Mismatch<'a>>
+    ensures found { IfOk result (λ x. IsUtf8 x.0 × (bytes.now ≡ text_literal x.0 ++ x.1.now) × NoQuote x.1.now) }
+    ensures stop { IfErr result (MismatchIn NoQuote IsUtf8 text_literal bytes.now) }
 {
-    let Some(inner) = behind_quote(bytes) else {
-        return Err(Stop::At(bytes));
+    let Some(inner) = after_quote(bytes) else {
+        return Err(Mismatch::At(bytes));
     };
     let mut out = Vec::new(alloc);
     let mut rest = inner;
     let mut expected = Expected::Character;
-    while let Some((byte, after)) = rest.split_first() {
+    while let Some((byte, left)) = rest.split_first() {
         let Some(next) = next_expected(expected, *byte) else {
-            return Err(Stop::At(rest));
+            return Err(Mismatch::At(rest));
         };
-        let Some(left) = behind_double(*byte, after) else {
+        let Some(next_bytes) = after_double(*byte, left) else {
             // SAFETY: the bytes so far are a text, since it may end where a quote may come.
             let text = unsafe { String::from_utf8_unchecked(out) };
-            return Ok((Str::from_string(text), after));
+            return Ok((Str::from_string(text), left));
         };
         out.push(*byte)?;
-        rest = left;
+        rest = next_bytes;
         expected = next;
     }
-    Err(Stop::At(rest))
+    Err(Mismatch::At(rest))
 }
 
 /// What follows a quote.
-pub fn behind_quote(bytes: &[u8]) -> Option<&[u8]>
+pub fn after_quote(bytes: &[u8]) -> Option<&[u8]>
     ensures some { IfSome result (λ rest. bytes.now ≡ 39 ∷ rest.now) }
     ensures none { IfNone result (NoQuote bytes.now) }
 {
@@ -47,12 +47,12 @@ pub fn behind_quote(bytes: &[u8]) -> Option<&[u8]>
 }
 
 // What follows a byte with its double, where it is a quote; nothing where a quote has none.
-fn behind_double(byte: u8, after: &[u8]) -> Option<&[u8]>
+fn after_double(byte: u8, after: &[u8]) -> Option<&[u8]>
     ensures some { IfSome result (λ left. ((byte ≡ 39) × (after.now ≡ 39 ∷ left.now)) ⊎ ((byte ≢ 39) × (after.now ≡ left.now))) }
     ensures none { IfNone result ((byte ≡ 39) × NoQuote after.now) }
 {
     if byte == b'\'' {
-        behind_quote(after)
+        after_quote(after)
     } else {
         Some(after)
     }

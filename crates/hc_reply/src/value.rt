@@ -2,27 +2,26 @@
 ghost use Rattle.std.specs.Prelude.{◌≡◌, List, ℕ, true, false, ◌∷◌, ◌++◌, ◌-◌, ◌^◌, ◌≤◌, negsuc, FitsSigned, IfOk, IfErr, IfSome, IfNone};
 ghost use Rattle.std.specs.Fmt.{signed_decimal};
 ghost use Rattle.std.specs.Int.{w64};
-ghost use Rattle.hc_reply.specs.Output.{value_text};
-ghost use Rattle.hc_reply.specs.Reading.{IsPrintable};
-ghost use Rattle.hc_reply.specs.Stops.{EndsBehind, EndsValue, NoDigit, NoMinus, NotFirst, StopsIn};
+ghost use Rattle.hc_transcript.specs.Literals.{value_text, IsPrintable};
+ghost use Rattle.hc_reply.specs.Mismatches.{EndsAfter, EndsValue, NoDigit, NoMinus, NotFirst, MismatchIn};
 
 use crate::blob::blob;
+use crate::mismatch::Mismatch;
 use crate::number::number;
-use crate::stop::Stop;
 use crate::text::text;
-use crate::word::behind_word;
+use crate::word::expect_word;
 use hc_value::{Blob, Value};
 use std::alloc::Global;
 
 const GREATEST: u64 = 9_223_372_036_854_775_807;
 
 /// A value at the front of the bytes, and what is left.
-pub fn value<'a>(alloc: Global, bytes: &'a [u8]) -> Result<(Value, &'a [u8]), Stop<'a>>
-    ensures found { IfOk result (λ x. IsPrintable x.0 × (bytes.now ≡ value_text x.0 ++ x.1.now) × EndsBehind x.0 x.1.now) }
-    ensures stop { IfErr result (StopsIn EndsValue IsPrintable value_text bytes.now) }
+pub fn value<'a>(alloc: Global, bytes: &'a [u8]) -> Result<(Value, &'a [u8]), Mismatch<'a>>
+    ensures found { IfOk result (λ x. IsPrintable x.0 × (bytes.now ≡ value_text x.0 ++ x.1.now) × EndsAfter x.0 x.1.now) }
+    ensures stop { IfErr result (MismatchIn EndsValue IsPrintable value_text bytes.now) }
 {
     if begins(bytes, b'N') {
-        let rest = behind_word(b"NULL", bytes)?;
+        let rest = expect_word(b"NULL", bytes)?;
         return Ok((Value::Null, rest));
     }
     if begins(bytes, b'\'') {
@@ -49,11 +48,11 @@ fn begins(bytes: &[u8], first: u8) -> bool
 }
 
 /// An integer at the front of the bytes, and what is left.
-pub fn integer(bytes: &[u8]) -> Result<(i64, &[u8]), Stop<'_>>
+pub fn integer(bytes: &[u8]) -> Result<(i64, &[u8]), Mismatch<'_>>
     ensures found { IfOk result (λ x. FitsSigned w64 x.0 × (bytes.now ≡ signed_decimal x.0 ++ x.1.now) × NoDigit x.1.now) }
-    ensures stop { IfErr result (StopsIn NoDigit (FitsSigned w64) signed_decimal bytes.now) }
+    ensures stop { IfErr result (MismatchIn NoDigit (FitsSigned w64) signed_decimal bytes.now) }
 {
-    let Some(digits) = behind_minus(bytes) else {
+    let Some(digits) = after_minus(bytes) else {
         let (n, rest) = number(0, GREATEST, bytes)?;
         return Ok((n as i64, rest));
     };
@@ -62,7 +61,7 @@ pub fn integer(bytes: &[u8]) -> Result<(i64, &[u8]), Stop<'_>>
 }
 
 // What follows a minus.
-fn behind_minus(bytes: &[u8]) -> Option<&[u8]>
+fn after_minus(bytes: &[u8]) -> Option<&[u8]>
     ensures some { IfSome result (λ rest. bytes.now ≡ 45 ∷ rest.now) }
     ensures none { IfNone result (NoMinus bytes.now) }
 {

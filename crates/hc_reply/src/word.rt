@@ -1,29 +1,36 @@
 // Fixed words at the front of bytes.
-ghost use Rattle.std.specs.Prelude.{◌≡◌, ◌++◌, IfOk, IfErr};
-ghost use Rattle.hc_reply.specs.Stops.{Anything, IsCommon, IsWord, StopsIn, the_word};
+ghost use Rattle.std.specs.Prelude.{◌≡◌, ◌≤◌, ◌++◌, length, IfOk, IfErr};
+ghost use Rattle.hc_reply.specs.Mismatches.{Anything, MismatchIn};
+ghost use Rattle.hc_reply.specs.Words.{IsWord, common, the_word};
 
-use crate::stop::Stop;
+use crate::mismatch::Mismatch;
 
-/// What is left behind a word.
-pub fn behind_word<'a>(word: &[u8], bytes: &'a [u8]) -> Result<&'a [u8], Stop<'a>>
+/// What is left after a word.
+pub fn expect_word<'a>(word: &[u8], bytes: &'a [u8]) -> Result<&'a [u8], Mismatch<'a>>
     ensures found { IfOk result (λ rest. bytes.now ≡ word.now ++ rest.now) }
-    ensures stop { IfErr result (StopsIn Anything IsWord (the_word word.now) bytes.now) }
+    ensures stop { IfErr result (MismatchIn Anything IsWord (the_word word.now) bytes.now) }
 {
     let n = common(word, bytes);
     if n == word.len() {
         Ok(&bytes[n..])
     } else {
-        Err(Stop::At(&bytes[n..]))
+        Err(Mismatch::At(&bytes[n..]))
     }
 }
 
 /// How many bytes a word and the bytes begin with in common.
 pub fn common(word: &[u8], bytes: &[u8]) -> usize
-    ensures { IsCommon word.now bytes.now result }
+    ensures count { result ≡ common word.now bytes.now }
+    ensures within { (result ≤ length word.now) × (result ≤ length bytes.now) }
 {
-    let mut n = 0;
-    while n < word.len() && n < bytes.len() && word[n] == bytes[n] {
-        n += 1;
+    let Some((w, others)) = word.split_first() else {
+        return 0;
+    };
+    let Some((b, left)) = bytes.split_first() else {
+        return 0;
+    };
+    if *w != *b {
+        return 0;
     }
-    n
+    common(others, left) + 1
 }

@@ -1,3 +1,1 @@
-mod Characters
-pub mod Ends
 mod Total

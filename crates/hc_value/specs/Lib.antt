@@ -1,3 +1,2 @@
-pub mod Expected
 pub mod Order
 pub mod Values

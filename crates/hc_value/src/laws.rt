@@ -11,7 +11,7 @@ ghost use Rattle.hc_value.specs.Values.{IsValue};
 use crate::{Str, Value};
 
 /// The order is total: turned round it is reversed, it goes on from value to value, and values that it
-/// takes for equal stand alike to each other value.
+/// takes for equal compare alike with each other value.
 pub fn the_order_of_values_is_total()
     ensures { IsTotalOrder value_order }
 {}

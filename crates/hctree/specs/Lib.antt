@@ -1,4 +1,1 @@
-pub mod Causes
-pub mod Streams
-pub mod TopCall
-pub mod Words
+pub mod Ends

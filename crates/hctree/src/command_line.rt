@@ -1,5 +1,6 @@
-// What the user wrote behind the program's name.
+// What the user wrote after the program's name.
 use crate::fault::Fault;
+use hc_top::Status;
 use hc_value::Str;
 use std::env;
 use std::io::ErrorKind;
@@ -49,27 +50,27 @@ impl Question {
     }
 }
 
-/// The words behind the program's name.
+/// The arguments after the program's name.
 pub fn gather_words(rt: &HostRuntime) -> Result<Vec<Str>, Fault> {
     let arguments = match env::args(rt) {
         Ok(arguments) => arguments,
         Err(error) => {
             return Err(match error.kind() {
                 ErrorKind::InvalidData => Fault::NotText,
-                _ => Fault::NoMemory,
+                _ => Fault::Ended(Status::NoMemory),
             });
         }
     };
     let mut words = Vec::new(rt.alloc());
     for argument in arguments.skip(1) {
         if words.push(Str::from_string(argument)).is_err() {
-            return Err(Fault::NoMemory);
+            return Err(Fault::Ended(Status::NoMemory));
         }
     }
     Ok(words)
 }
 
-/// The first word that asks for help or for the version, wherever it stands.
+/// The first word that asks for help or for the version, wherever it is.
 pub fn question_in(words: &[Str]) -> Option<Question> {
     for word in words {
         match word.as_str() {

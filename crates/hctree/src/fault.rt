@@ -1,5 +1,8 @@
 // What a person is told on standard error when a call did not end in `Done`.
-use crate::status::{InputKind, Status};
+ghost use Rattle.std.specs.Prelude.{◌≡◌};
+ghost use Rattle.hctree.specs.Ends.{status_of};
+
+use hc_top::Status;
 use hc_value::{NoMemory, Str};
 use std::alloc::Global;
 use thiserror::Error;
@@ -13,73 +16,52 @@ pub enum Fault {
     /// A word that does not fit, or its beginning.
     #[error("{word:?} is not expected on the command line; the words may be none, or `--mode step`, and the script is read from standard input (see `hctree --help`)")]
     Word { word: String },
-    /// Words that do not fit, where there is no memory to name one.
-    #[error("the words of the command line may be none, or `--mode step` (see `hctree --help`)")]
-    Words,
     /// The option without its value.
-    #[error("`--mode` wants a mode behind it; the words may be none, or `--mode step` (see `hctree --help`)")]
+    #[error("`--mode` needs a mode after it; the words may be none, or `--mode step` (see `hctree --help`)")]
     NoMode,
-    /// A word that is no text.
+    /// A word that is not text.
     #[error("a word of the command line is not UTF-8; the words may be none, or `--mode step` (see `hctree --help`)")]
     NotText,
-    /// An input that is not in the language, or over one of its limits.
-    #[error("the input as a whole (byte 0, line 1, column 1) cannot be run: it may hold `INSERT INTO t VALUES(N,N);` and `SELECT v FROM t WHERE id=N;` alone, with spaces and line feeds around them, at most 65,535 statements and 16,777,216 bytes; N is 0 to 9223372036854775807, without a sign or a leading zero")]
-    Unbuilt,
-    /// Standard input failed.
-    #[error("standard input could not be read")]
-    Read,
-    /// Standard output failed.
-    #[error("standard output could not be written to its end")]
-    Write,
-    /// An allocation was refused.
-    #[error("memory ran out")]
-    NoMemory,
+    /// What the status says, where there is no more to say.
+    #[error("{0}")]
+    Ended(Status),
 }
 
 impl Fault {
-    /// The fault that a status tells, and none for `Done`.
-    pub fn of_status(alloc: Global, status: Status, words: &[Str]) -> Option<Fault> {
+    /// The fault that a status other than `Done` tells, and for `Words` the word that does not fit.
+    pub fn of_status(alloc: Global, status: Status, words: &[Str]) -> Fault
+        ensures { status_of result ≡ status }
+    {
         match status {
-            Status::Done => None,
-            // This kind's place is always the first byte.
-            Status::Input {
-                at: _,
-                kind: InputKind::Unbuilt,
-            } => Some(Fault::Unbuilt),
-            Status::ReadFault => Some(Fault::Read),
-            Status::WriteFault => Some(Fault::Write),
-            Status::Words => Some(Fault::of_words(alloc, words)),
-            Status::NoMemory => Some(Fault::NoMemory),
+            Status::Words => Fault::of_words(alloc, words),
+            _ => Fault::Ended(status),
         }
     }
 
-    // The first word that does not fit.
-    fn of_words(alloc: Global, words: &[Str]) -> Fault {
+    // The first word that does not fit, where there is memory to name it.
+    fn of_words(alloc: Global, words: &[Str]) -> Fault
+        ensures { status_of result ≡ Status.Words }
+    {
         let unfit = match words {
             [option] if option.as_str() == "--mode" => return Fault::NoMode,
             [option, mode, ..] if option.as_str() == "--mode" && mode.as_str() != "step" => mode,
             [option, _, third, ..] if option.as_str() == "--mode" => third,
             [first, ..] => first,
-            [] => return Fault::Words,
+            [] => return Fault::Ended(Status::Words),
         };
         match beginning(alloc, unfit.as_str()) {
             Ok(word) => Fault::Word { word },
-            Err(_) => Fault::Words,
+            Err(_) => Fault::Ended(Status::Words),
         }
     }
 
     /// The status that the fault ends the program with.
-    pub fn status(&self) -> Status {
+    pub fn status(&self) -> Status
+        ensures { result ≡ status_of self.now }
+    {
         match self {
-            Fault::Word { word: _ } | Fault::Words | Fault::NoMode | Fault::NotText =>
-                Status::Words,
-            Fault::Unbuilt => Status::Input {
-                at: 0,
-                kind: InputKind::Unbuilt,
-            },
-            Fault::Read => Status::ReadFault,
-            Fault::Write => Status::WriteFault,
-            Fault::NoMemory => Status::NoMemory,
+            Fault::Word { word: _ } | Fault::NoMode | Fault::NotText => Status::Words,
+            Fault::Ended(status) => *status,
         }
     }
 }

@@ -2,7 +2,7 @@
 use Rattle.std.proofs.Common.{◌≡◌, ◌≢◌, ◌∙◌, ⊎_elim, refl, ap, ℕ, ◌+◌, ◌≤◌, true, List, [], ◌∷◌, Option, arith}
 use Rattle.std.proofs.lemmas.Bool.{cases_eq}
 use Rattle.hc_core.specs.Lookup.{Among, but}
-use Rattle.hc_core.specs.Account.{Txn, Stands, StandsAs, IsIdle, begun_at}
+use Rattle.hc_core.specs.Account.{Txn, HasWritten, HasWrittenAs, IsIdle, begun_at}
 use Rattle.hc_core.specs.Versions.{PutAt}
 use Rattle.hc_core.specs.Sound.{AreSound, TxnIsSound, AreInOrder, ComesAfterEach}
 use Rattle.hc_core.proofs.Lookups.{each_but, each_grown, grown_here}
@@ -12,7 +12,7 @@ use Rattle.hc_core.proofs.Ordered.{after_each, each_after}
 -- where no transaction is open, each has ended
 pub all_ended : (ts : List Txn) → AreInOrder ts → IsIdle ts → (u : Txn) → Among u ts → u.ended ≡ true
 all_ended [] ordered idle u there = elim there [ ]
-all_ended (t ∷ ts) ordered idle u there = ⊎_elim (λ (same : u ≡ t). ap (λ (v : Txn). v.ended) same ∙ idle) (λ behind. (after_each t u ts ordered.0 behind).ended) there
+all_ended (t ∷ ts) ordered idle u there = ⊎_elim (λ (same : u ≡ t). ap (λ (v : Txn). v.ended) same ∙ idle) (λ following. (after_each t u ts ordered.0 following).ended) there
 
 module _ {size : ℕ} {log : ℕ → ℕ} {of : ℕ → List Txn} (s : AreSound size log of) (i : ℕ) (idle : IsIdle (of i)) where
   abbrev new : Txn
@@ -27,9 +27,9 @@ module _ {size : ℕ} {log : ℕ → ℕ} {of : ℕ → List Txn} (s : AreSound 
 
   put_back : (c : ℕ) (key : List ℕ) (rec : Option (List ℕ)) → PutAt now c key rec → PutAt of c key rec
   put_back c key rec put =
-      each_grown of i new (λ j u. u.place ≡ c → StandsAs u key rec → PutAt of c key rec)
-      (λ at stands. absurd stands)
-      (λ j u there at stands. (j, u, there, at, put.4, stands))
+      each_grown of i new (λ j u. u.place ≡ c → HasWrittenAs u key rec → PutAt of c key rec)
+      (λ at written. absurd written)
+      (λ j u there at written. (j, u, there, at, put.4, written))
       put.0 put.1 put.2 put.3 put.5
 
   agree : AgreeUpto size of now
@@ -38,34 +38,34 @@ module _ {size : ℕ} {log : ℕ → ℕ} {of : ℕ → List Txn} (s : AreSound 
   -- a transaction that was sound stays so
   carried : (j : ℕ) (v : Txn) → TxnIsSound size of j v → TxnIsSound size now j v
   carried j v h = sound-agree size size of now agree (omega arith) j v h
-      (λ undecided k u key among u_undecided stands u_stands.
-      each_grown of i new (λ k u. u.place ≡ 0 → Stands u key → k ≡ j)
-      (λ is_undecided is_standing. absurd is_standing.1)
-      (λ k u there is_undecided is_standing. h.alone undecided k u key there is_undecided stands is_standing)
-      k u among u_undecided u_stands)
-      (λ undecided k u key among stands u_stands.
-      each_grown of i new (λ k u. Stands u key → u.place ≤ v.snapshot)
-      (λ is_standing. absurd is_standing.1)
-      (λ k u there is_standing. h.newest undecided k u key there stands is_standing)
-      k u among u_stands)
-      (λ r among. let n = h.refusals r among in (n.0, n.1, grown_here of i new n.0 n.1 n.2, n.3, n.4, n.5, n.6, n.7, n.8, n.9))
+      (record {
+        alone = λ undecided k u key among u_undecided written u_written.
+            each_grown of i new (λ k u. u.place ≡ 0 → HasWritten u key → k ≡ j)
+            (λ is_undecided is_written. absurd is_written.1)
+            (λ k u there is_undecided is_written. h.holds.alone undecided k u key there is_undecided written is_written)
+            k u among u_undecided u_written;
+        newest = λ undecided k u key among written u_written.
+            each_grown of i new (λ k u. HasWritten u key → u.place ≤ v.snapshot)
+            (λ is_written. absurd is_written.1)
+            (λ k u there is_written. h.holds.newest undecided k u key there written is_written)
+            k u among u_written;
+      })
+      (λ r among. let n = h.refusals r among in (n.0, n.1, grown_here of i new n.0 n.1 n.2, n.3, n.4, n.5, n.6, n.7, n.8, n.9, n.10))
 
   -- the new transaction is sound
   new_sound : TxnIsSound size now i new
   new_sound = record {
-    snapshot = omega arith;
-    undrawn = λ none. (refl, refl, refl, refl);
-    place = λ placed. absurd (placed refl);
-    rolled_back = λ ended undecided. refl;
-    once = tt;
-    listed = λ w stands. absurd stands;
-    alone = λ undecided k u key among u_undecided stands. absurd stands.1;
-    newest = λ undecided k u key among stands. absurd stands.1;
+    numbers = record {
+      snapshot_within = omega arith;
+      undrawn = λ none. (refl, refl);
+      place_within = λ placed. absurd (placed refl);
+      proposed_within = omega arith;
+      chosen = λ placed. absurd (placed refl);
+    };
+    writes = record { undrawn = λ none. (refl, refl); rolled_back = λ ended undecided. refl; once = tt; listed = λ w written. absurd written };
+    holds = record { alone = λ undecided k u key among u_undecided written. absurd written.1; newest = λ undecided k u key among written. absurd written.1 };
     reads = λ read among. absurd among;
-    proposed = omega arith;
-    chosen = λ placed. absurd (placed refl);
-    checked = λ part among. absurd among;
-    unchanged = λ found among. absurd among;
+    checks = record { current = λ part among. absurd among; ever = λ found among. absurd among };
     first = λ placed. absurd (placed refl);
     refusals = λ r among. absurd among;
   }
@@ -76,8 +76,8 @@ module _ {size : ℕ} {log : ℕ → ℕ} {of : ℕ → List Txn} (s : AreSound 
     ended = all_ended (of i) (s.in_order i) idle u there;
     id = λ drawn. absurd (drawn refl);
     ord = λ drawn. absurd (drawn refl);
-    snapshot = (s.each i u there).snapshot;
-    place = ⊎_elim (λ (none : u.place ≡ 0). omega arith) (λ placed. ((s.each i u there).place placed).1) (cases_eq u.place 0);
+    snapshot = (s.each i u there).numbers.snapshot_within;
+    place = ⊎_elim (λ (none : u.place ≡ 0). omega arith) (λ placed. ((s.each i u there).numbers.place_within placed).1) (cases_eq u.place 0);
   })
 
   -- where no transaction of a connection is open, a new one leaves all sound

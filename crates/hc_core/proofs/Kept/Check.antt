@@ -7,7 +7,7 @@ use Rattle.hc_core.specs.Account.{Txn, PartChecked}
 use Rattle.hc_core.specs.Machine.{IsUnchanged}
 use Rattle.hc_core.specs.Sound.{AreSound, NonePutBetween}
 use Rattle.hc_core.proofs.Ordered.{newest_sound}
-use Rattle.hc_core.proofs.Kept.Same.{kept_same}
+use Rattle.hc_core.proofs.Kept.Same.{by_parts, kept_aside}
 
 -- where nothing changed in a part, no commit between put a key of it
 unchanged_none : (of : ℕ → List Txn) (snapshot number : ℕ) (part : Range) → IsUnchanged of snapshot number part → (key : List ℕ) → InRange part key → NonePutBetween of snapshot number key
@@ -20,27 +20,13 @@ pub kept_check : {size : ℕ} {log : ℕ → ℕ} {of : ℕ → List Txn} (s : A
     → AreSound size log (but of i (record t { checked = part ∷ t.checked; unchanged = record { part = part; number = t.proposed } ∷ t.unchanged } ∷ rest))
 kept_check {size} {log} {of} s i t rest is part unchanged =
     let h = newest_sound s i t rest is in
-    kept_same s i t (record t { checked = part ∷ t.checked; unchanged = record { part = part; number = t.proposed } ∷ t.unchanged }) rest is
-    (record { place = refl; standing = λ placed. refl; id = λ placed. refl; named = λ key put. (refl, refl, put) })
-    (record { id = refl; ord = refl; snapshot = refl })
-    (record {
-      snapshot = h.snapshot;
-      undrawn = h.undrawn;
-      place = h.place;
-      rolled_back = h.rolled_back;
-      once = h.once;
-      listed = h.listed;
-      alone = h.alone;
-      newest = h.newest;
-      reads = h.reads;
-      proposed = h.proposed;
-      chosen = h.chosen;
-      checked = λ p among. ⊎_elim (λ same. subst (λ q. (key : List ℕ) → InRange q key → NonePutBetween of t.snapshot t.proposed key) (sym same) (unchanged_none of t.snapshot t.proposed part unchanged)) (λ old. h.checked p old) among;
-      unchanged = λ found among. ⊎_elim
+    kept_aside s i t (record t { checked = part ∷ t.checked; unchanged = record { part = part; number = t.proposed } ∷ t.unchanged }) rest is
+    (record { id = refl; ord = refl; snapshot = refl; place = refl; write_set = refl; puts = refl })
+    (by_parts _ h.numbers h.writes h.holds h.reads (record {
+      current = λ p among. ⊎_elim (λ same. subst (λ q. (key : List ℕ) → InRange q key → NonePutBetween of t.snapshot t.proposed key) (sym same) (unchanged_none of t.snapshot t.proposed part unchanged)) (λ old. h.checks.current p old) among;
+      ever = λ found among. ⊎_elim
           (λ same. subst (λ (f : PartChecked). (f.number ≤ size + 1) × ((key : List ℕ) → InRange f.part key → NonePutBetween of t.snapshot f.number key)) (sym same)
-          (h.proposed, unchanged_none of t.snapshot t.proposed part unchanged))
-          (λ old. h.unchanged found old)
+          (h.numbers.proposed_within, unchanged_none of t.snapshot t.proposed part unchanged))
+          (λ old. h.checks.ever found old)
           among;
-      first = h.first;
-      refusals = h.refusals;
-    })
+    }) h.first h.refusals)

@@ -1,16 +1,16 @@
 -- A transaction takes the next commit number: all that it read was checked for it, so nobody put that since its snapshot.
-use Rattle.std.proofs.Common.{◌≡◌, ◌≢◌, ◌∙◌, inl, inr, ⊎_elim, refl, sym, subst, ℕ, ◌+◌, ◌<◌, ◌≤◌, true, List, [], ◌∷◌, Option, arith}
+use Rattle.std.proofs.Common.{◌≡◌, ◌≢◌, ◌∙◌, inl, inr, ⊎_elim, refl, sym, subst, ℕ, ◌+◌, ◌<◌, ◌≤◌, List, [], ◌∷◌, Option, arith}
 use Rattle.std.proofs.lemmas.Bool.{cases_lt}
 use Rattle.hc_range.specs.declared.range.Range.{Range}
 use Rattle.hc_range.specs.Ranges.{InRange, InAny, Includes}
 use Rattle.hc_core.specs.Lookup.{Among, but}
-use Rattle.hc_core.specs.Account.{Txn, PartRead, Refusal, HoldsKey, Stands, StandsAs, HasRead}
+use Rattle.hc_core.specs.Account.{IsAskedFor, IsPart, Txn, PartRead, Refusal, HoldsKey, HasWritten, HasWrittenAs, HasRead}
 use Rattle.hc_core.specs.Versions.{PutAt}
 use Rattle.hc_core.specs.Sound.{AreSound, TxnIsSound, AreInOrder, NamesWriter, NonePutBetween}
 use Rattle.hc_core.proofs.Lookups.{each_but, but-same, but-other, new_here, rest_here, others_here, each_new, each_old, old_there, rest_there}
-use Rattle.hc_core.proofs.Agreeing.{AgreeUpto, cells-agree, none-agree, sound-agree}
+use Rattle.hc_core.proofs.Agreeing.{AgreeUpto, checks-agree, none-agree, reads-agree, sound-agree}
 use Rattle.hc_core.proofs.Ordered.{after_each, newest_after, distinct_with}
-use Rattle.hc_core.proofs.Standing.{nothing_stands}
+use Rattle.hc_core.proofs.WriteSets.{nothing_written}
 use Rattle.hc_core.proofs.Kept.Same.{same_after}
 
 -- a key that lies in one of the ranges lies in a range that is among them
@@ -36,18 +36,18 @@ module _ {size : ℕ} {log : ℕ → ℕ} {of : ℕ → List Txn} (s : AreSound 
   -- the commits put what they put before, and those up to the old size nothing else
   put_there : (c : ℕ) (key : List ℕ) (rec : Option (List ℕ)) → PutAt of c key rec → PutAt now c key rec
   put_there c key rec put =
-      each_old of i t rest is (λ j u. u.place ≡ c → StandsAs u key rec → PutAt now c key rec)
-      (λ at stands. absurd (put.4 (sym at ∙ undecided)))
-      (λ u there at stands. (i, u, rest_here of i new rest u there, at, put.4, stands))
-      (λ j u differ there at stands. (j, u, others_here of i new rest j u differ there, at, put.4, stands))
+      each_old of i t rest is (λ j u. u.place ≡ c → HasWrittenAs u key rec → PutAt now c key rec)
+      (λ at written. absurd (put.4 (sym at ∙ undecided)))
+      (λ u there at written. (i, u, rest_here of i new rest u there, at, put.4, written))
+      (λ j u differ there at written. (j, u, others_here of i new rest j u differ there, at, put.4, written))
       put.0 put.1 put.2 put.3 put.5
 
   put_back : (c : ℕ) (key : List ℕ) (rec : Option (List ℕ)) → c ≤ size → PutAt now c key rec → PutAt of c key rec
   put_back c key rec within put =
-      each_new of i new rest (λ j u. u.place ≡ c → StandsAs u key rec → PutAt of c key rec)
-      (λ at stands. absurd (omega (arith, at, within)))
-      (λ u there at stands. (i, u, rest_there of i t rest is u there, at, put.4, stands))
-      (λ j u differ there at stands. (j, u, there, at, put.4, stands))
+      each_new of i new rest (λ j u. u.place ≡ c → HasWrittenAs u key rec → PutAt of c key rec)
+      (λ at written. absurd (omega (arith, at, within)))
+      (λ u there at written. (i, u, rest_there of i t rest is u there, at, put.4, written))
+      (λ j u differ there at written. (j, u, there, at, put.4, written))
       put.0 put.1 put.2 put.3 put.5
 
   agree : AgreeUpto size of now
@@ -57,59 +57,59 @@ module _ {size : ℕ} {log : ℕ → ℕ} {of : ℕ → List Txn} (s : AreSound 
   named : (j snapshot : ℕ) (r : Refusal) → snapshot ≤ size → NamesWriter of j snapshot r → NamesWriter now j snapshot r
   named j snapshot r within n =
       each_old of i t rest is
-      (λ k u. k ≢ j → r.met.conn ≡ k → r.met.tid.0 ≡ u.id → r.met.ord ≡ u.ord → HoldsKey u.puts r.met.key → (u.place ≢ 0 → snapshot < u.place) → (r.by_check ≡ true → u.place ≢ 0) → NamesWriter now j snapshot r)
-      (λ other conn id ord put above committed. (i, new, new_here of i new rest, other, conn, id, ord, put, λ placed. omega arith, λ by_check none. absurd (omega (arith, none))))
-      (λ u there other conn id ord put above committed. (i, u, rest_here of i new rest u there, other, conn, id, ord, put, above, committed))
-      (λ k u differ there other conn id ord put above committed. (k, u, others_here of i new rest k u differ there, other, conn, id, ord, put, above, committed))
-      n.0 n.1 n.2 n.3 n.4 n.5 n.6 n.7 n.8 n.9
+      (λ k u. k ≢ j → r.met.conn ≡ k → r.met.tid.0 ≡ u.id → r.met.ord ≡ u.ord → HoldsKey u.puts r.met.key → (u.place ≢ 0 → snapshot < u.place) → (IsPart r.asked → u.place ≢ 0) → IsAskedFor r.asked r.met.key → NamesWriter now j snapshot r)
+      (λ other conn id ord put above committed asked. (i, new, new_here of i new rest, other, conn, id, ord, put, λ placed. omega arith, λ of_part none. absurd (omega (arith, none)), asked))
+      (λ u there other conn id ord put above committed asked. (i, u, rest_here of i new rest u there, other, conn, id, ord, put, above, committed, asked))
+      (λ k u differ there other conn id ord put above committed asked. (k, u, others_here of i new rest k u differ there, other, conn, id, ord, put, above, committed, asked))
+      n.0 n.1 n.2 n.3 n.4 n.5 n.6 n.7 n.8 n.9 n.10
 
-  -- another transaction stays sound, since no undecided one has a key that stands put here
-  carried : (j : ℕ) (v : Txn) → TxnIsSound size of j v → (v.place ≡ 0 → (key : List ℕ) → Stands v key → Stands t key → ⊥) → TxnIsSound (size + 1) now j v
+  -- another transaction stays sound, since no undecided one has a key that is in the write set here
+  carried : (j : ℕ) (v : Txn) → TxnIsSound size of j v → (v.place ≡ 0 → (key : List ℕ) → HasWritten v key → HasWritten t key → ⊥) → TxnIsSound (size + 1) now j v
   carried j v g apart = sound-agree size (size + 1) of now agree (omega arith) j v g
-      (λ v_undecided k u key among u_undecided stands u_stands.
-      each_new of i new rest (λ k u. u.place ≡ 0 → Stands u key → k ≡ j)
-      (λ is_undecided is_standing. absurd (omega (arith, is_undecided)))
-      (λ u there is_undecided is_standing. g.alone v_undecided i u key (rest_there of i t rest is u there) is_undecided stands is_standing)
-      (λ k u differ there is_undecided is_standing. g.alone v_undecided k u key there is_undecided stands is_standing)
-      k u among u_undecided u_stands)
-      (λ v_undecided k u key among stands u_stands.
-      each_new of i new rest (λ k u. Stands u key → u.place ≤ v.snapshot)
-      (λ is_standing. absurd (apart v_undecided key stands is_standing))
-      (λ u there is_standing. g.newest v_undecided i u key (rest_there of i t rest is u there) stands is_standing)
-      (λ k u differ there is_standing. g.newest v_undecided k u key there stands is_standing)
-      k u among u_stands)
-      (λ r among. named j v.snapshot r g.snapshot (g.refusals r among))
+      (record {
+        alone = λ v_undecided k u key among u_undecided written u_written.
+            each_new of i new rest (λ k u. u.place ≡ 0 → HasWritten u key → k ≡ j)
+            (λ is_undecided is_written. absurd (omega (arith, is_undecided)))
+            (λ u there is_undecided is_written. g.holds.alone v_undecided i u key (rest_there of i t rest is u there) is_undecided written is_written)
+            (λ k u differ there is_undecided is_written. g.holds.alone v_undecided k u key there is_undecided written is_written)
+            k u among u_undecided u_written;
+        newest = λ v_undecided k u key among written u_written.
+            each_new of i new rest (λ k u. HasWritten u key → u.place ≤ v.snapshot)
+            (λ is_written. absurd (apart v_undecided key written is_written))
+            (λ u there is_written. g.holds.newest v_undecided i u key (rest_there of i t rest is u there) written is_written)
+            (λ k u differ there is_written. g.holds.newest v_undecided k u key there written is_written)
+            k u among u_written;
+      })
+      (λ r among. named j v.snapshot r g.numbers.snapshot_within (g.refusals r among))
 
   -- what it read was checked for its number
   none_read : (key : List ℕ) → HasRead t key → NonePutBetween of t.snapshot (size + 1) key
   none_read key read =
       let r = range_of t.checked key (included read.0 read.1 key read.2) in
-      subst (λ n. NonePutBetween of t.snapshot n key) proposes (h.checked r.0 r.1 key r.2)
+      subst (λ n. NonePutBetween of t.snapshot n key) proposes (h.checks.current r.0 r.1 key r.2)
 
   -- no commit above its snapshot put what it put
-  none_put : (key : List ℕ) → Stands t key → NonePutBetween of t.snapshot (size + 1) key
-  none_put key stands c rec above below put =
-      let low : put.1.place ≤ t.snapshot = h.newest undecided put.0 put.1 key put.2 stands (rec, put.5) in
+  none_put : (key : List ℕ) → HasWritten t key → NonePutBetween of t.snapshot (size + 1) key
+  none_put key written c rec above below put =
+      let low : put.1.place ≤ t.snapshot = h.holds.newest undecided put.0 put.1 key put.2 written (rec, put.5) in
       omega (arith, low, put.3, above)
 
   -- the decided transaction is sound with the longer log
   new_sound : TxnIsSound (size + 1) now i new
   new_sound = record {
-    snapshot = omega (arith, h.snapshot);
-    undrawn = λ none. absurd (drawn none);
-    place = λ placed. (omega (arith, h.snapshot), omega arith);
-    rolled_back = λ ended none. absurd (omega (arith, none));
-    once = h.once;
-    listed = h.listed;
-    alone = λ none. absurd (omega (arith, none));
-    newest = λ none. absurd (omega (arith, none));
-    reads = λ read among. cells-agree size of now agree t.snapshot read.part read.cells h.snapshot (h.reads read among);
-    proposed = omega (arith, proposes);
-    chosen = λ placed. proposes;
-    checked = λ part among key inside. none-agree size of now agree t.snapshot t.proposed key h.proposed (h.checked part among key inside);
-    unchanged = λ found among. let u = h.unchanged found among in (omega (arith, u.0), λ key inside. none-agree size of now agree t.snapshot found.number key u.0 (u.1 key inside));
+    numbers = record {
+      snapshot_within = omega (arith, h.numbers.snapshot_within);
+      undrawn = λ none. absurd (drawn none);
+      place_within = λ placed. (omega (arith, h.numbers.snapshot_within), omega arith);
+      proposed_within = omega (arith, proposes);
+      chosen = λ placed. proposes;
+    };
+    writes = record { undrawn = h.writes.undrawn; rolled_back = λ ended none. absurd (omega (arith, none)); once = h.writes.once; listed = h.writes.listed };
+    holds = record { alone = λ none. absurd (omega (arith, none)); newest = λ none. absurd (omega (arith, none)) };
+    reads = reads-agree size of now agree t.snapshot t.reads h.numbers.snapshot_within h.reads;
+    checks = checks-agree size (size + 1) of now agree (omega arith) h.numbers.proposed_within h.checks;
     first = λ placed key has. none-agree size of now agree t.snapshot (size + 1) key (omega arith) (⊎_elim (none_read key) (none_put key) has);
-    refusals = λ r among. named i t.snapshot r h.snapshot (h.refusals r among);
+    refusals = λ r among. named i t.snapshot r h.numbers.snapshot_within (h.refusals r among);
   }
 
   -- who has an id had it
@@ -128,7 +128,7 @@ module _ {size : ℕ} {log : ℕ → ℕ} {of : ℕ → List Txn} (s : AreSound 
     where
       earlier : (k : ℕ) (v : Txn) → Among v (of k) → v.place ≡ c + 1 → but log size t.id c ≡ v.id
       earlier k v there at =
-          let within : v.place ≤ size = ((s.each k v there).place (λ none. omega (arith, none, at))).1 in
+          let within : v.place ≤ size = ((s.each k v there).numbers.place_within (λ none. omega (arith, none, at))).1 in
           but-other log size c t.id (λ last. omega (arith, last, within, at)) ∙ s.decided k v c there at
 
   -- each entry of the longer log has its transaction
@@ -159,7 +159,7 @@ module _ {size : ℕ} {log : ℕ → ℕ} {of : ℕ → List Txn} (s : AreSound 
         (λ j differ. s.in_order j);
     each = each_new of i new rest (TxnIsSound (size + 1) now) new_sound
         (λ u there. let g = s.each i u (rest_there of i t rest is u there) in
-        carried i u g (λ u_undecided key stands t_stands. nothing_stands u (g.rolled_back (after_each t u rest (newest_after s i t rest is) there).ended u_undecided) key stands))
+        carried i u g (λ u_undecided key written t_written. nothing_written u (g.writes.rolled_back (after_each t u rest (newest_after s i t rest is) there).ended u_undecided) key written))
         (λ j u differ there. let g = s.each j u there in
-        carried j u g (λ u_undecided key stands t_stands. differ (g.alone u_undecided i t key t_there undecided stands t_stands)));
+        carried j u g (λ u_undecided key written t_written. differ (g.holds.alone u_undecided i t key t_there undecided written t_written)));
   }

@@ -6,7 +6,7 @@ use Rattle.hc_core.specs.Sound.{AreSound}
 use Rattle.hc_core.proofs.Lookups.{rest_there}
 use Rattle.hc_core.proofs.Changed.{kept_changed}
 use Rattle.hc_core.proofs.Ordered.{newest_sound, newest_after, after_each, each_after}
-use Rattle.hc_core.proofs.Standing.{nothing_put}
+use Rattle.hc_core.proofs.WriteSets.{nothing_put}
 
 -- a transaction draws an id that no other has and an ordinal above all, and all stays sound
 pub kept_draw : {size : ℕ} {log : ℕ → ℕ} {of : ℕ → List Txn} (s : AreSound size log of) (i : ℕ) (t : Txn) (rest : List Txn) (is : of i ≡ t ∷ rest)
@@ -14,28 +14,19 @@ pub kept_draw : {size : ℕ} {log : ℕ → ℕ} {of : ℕ → List Txn} (s : Ar
     → AreSound size log (but of i (record t { id = id; ord = ord } ∷ rest))
 kept_draw {size} {log} {of} s i t rest is id ord undrawn some fresh above =
     let h = newest_sound s i t rest is in
-    let none = h.undrawn undrawn in
     kept_changed size log of i t (record t { id = id; ord = ord }) rest s is
     (record {
       place = refl;
-      standing = λ placed. refl;
-      id = λ placed. absurd (placed none.0);
-      named = λ key put. absurd (nothing_put t none.2 key put);
+      write_set = λ placed. refl;
+      id = λ placed. absurd (placed (h.numbers.undrawn undrawn).0);
+      named = λ key put. absurd (nothing_put t (h.writes.undrawn undrawn).1 key put);
     })
     (record {
-      snapshot = h.snapshot;
-      undrawn = λ is_none. absurd (some is_none);
-      place = h.place;
-      rolled_back = h.rolled_back;
-      once = h.once;
-      listed = h.listed;
-      alone = h.alone;
-      newest = h.newest;
+      numbers = record { snapshot_within = h.numbers.snapshot_within; undrawn = λ is_none. absurd (some is_none); place_within = h.numbers.place_within; proposed_within = h.numbers.proposed_within; chosen = h.numbers.chosen };
+      writes = record { undrawn = λ is_none. absurd (some is_none); rolled_back = h.writes.rolled_back; once = h.writes.once; listed = h.writes.listed };
+      holds = h.holds;
       reads = h.reads;
-      proposed = h.proposed;
-      chosen = h.chosen;
-      checked = h.checked;
-      unchanged = h.unchanged;
+      checks = h.checks;
       first = h.first;
       refusals = h.refusals;
     })

@@ -7,7 +7,7 @@ use Rattle.hc_core.specs.Account.{Txn, PartRead}
 use Rattle.hc_core.specs.Versions.{AreCellsAfter}
 use Rattle.hc_core.specs.Sound.{AreSound}
 use Rattle.hc_core.proofs.Ordered.{newest_sound}
-use Rattle.hc_core.proofs.Kept.Same.{kept_same}
+use Rattle.hc_core.proofs.Kept.Same.{by_parts, kept_aside}
 
 -- a transaction without an id notes the cells that it read, and all stays sound
 pub kept_read : {size : ℕ} {log : ℕ → ℕ} {of : ℕ → List Txn} (s : AreSound size log of) (i : ℕ) (t : Txn) (rest : List Txn) (is : of i ≡ t ∷ rest)
@@ -15,23 +15,6 @@ pub kept_read : {size : ℕ} {log : ℕ → ℕ} {of : ℕ → List Txn} (s : Ar
     → AreSound size log (but of i (record t { reads = record { part = part; cells = cells } ∷ t.reads } ∷ rest))
 kept_read {size} {log} {of} s i t rest is part cells undrawn are_cells =
     let h = newest_sound s i t rest is in
-    kept_same s i t (record t { reads = record { part = part; cells = cells } ∷ t.reads }) rest is
-    (record { place = refl; standing = λ placed. refl; id = λ placed. refl; named = λ key put. (refl, refl, put) })
-    (record { id = refl; ord = refl; snapshot = refl })
-    (record {
-      snapshot = h.snapshot;
-      undrawn = h.undrawn;
-      place = h.place;
-      rolled_back = h.rolled_back;
-      once = h.once;
-      listed = h.listed;
-      alone = h.alone;
-      newest = h.newest;
-      reads = λ read among. ⊎_elim (λ same. subst (λ (r : PartRead). AreCellsAfter of t.snapshot r.part r.cells) (sym same) are_cells) (λ old. h.reads read old) among;
-      proposed = h.proposed;
-      chosen = h.chosen;
-      checked = h.checked;
-      unchanged = h.unchanged;
-      first = λ placed. absurd (placed (h.undrawn undrawn).0);
-      refusals = h.refusals;
-    })
+    kept_aside s i t (record t { reads = record { part = part; cells = cells } ∷ t.reads }) rest is
+    (record { id = refl; ord = refl; snapshot = refl; place = refl; write_set = refl; puts = refl })
+    (by_parts _ h.numbers h.writes h.holds (λ read among. ⊎_elim (λ same. subst (λ (r : PartRead). AreCellsAfter of t.snapshot r.part r.cells) (sym same) are_cells) (λ old. h.reads read old) among) h.checks (λ placed. absurd (placed (h.numbers.undrawn undrawn).0)) h.refusals)

@@ -9,7 +9,8 @@ use Rattle.hc_lex.specs.declared.token.TokenKind.TheVariants as kind
 use Rattle.hc_lex.specs.Characters.{IsRun}
 use Rattle.hc_lex.specs.Tokens.{IsBlob}
 use Rattle.hc_value.specs.declared.value.Value.TheVariants.{Blob}
-use Rattle.hc_ast.specs.Words.{digit, byte_digits, blob_word}
+use Rattle.hc_text.specs.Digits.{hex_digit, byte_digits}
+use Rattle.hc_ast.specs.Words.{blob_word}
 use Rattle.hc_parse.specs.Lexemes.{SpellsBytes, IsBlobOf, IsLiteral}
 use Rattle.hc_parse.specs.Phrases.{One}
 use Rattle.hc_parse.proofs.Again.Written.{Written, one_word}
@@ -22,10 +23,10 @@ AreBytes bytes = AllByRecursion (λ b. b < 256) bytes
 hex_value : (c : ℕ) → is_ascii_hexdigit c ≡ true → digit_value c < 16
 hex_value c is = grind (arith, nat_tests)
 
-digit_is_hex : (d : ℕ) → d < 16 → is_ascii_hexdigit (digit d) ≡ true
+digit_is_hex : (d : ℕ) → d < 16 → is_ascii_hexdigit (hex_digit d) ≡ true
 digit_is_hex d small = grind (arith, nat_tests)
 
-digit_means : (d : ℕ) → d < 16 → digit_value (digit d) ≡ d
+digit_means : (d : ℕ) → d < 16 → digit_value (hex_digit d) ≡ d
 digit_means d small = grind (arith, nat_tests)
 
 -- the halves of a byte are below 16, and make it
@@ -54,8 +55,8 @@ spell [] are = refl
 spell (b ∷ bytes) are =
     let high = digit_means (b / 16) (high_half b are.0) in
     let low = digit_means (b % 16) (low_half b) in
-    let value : b ≡ 16 * digit_value (digit (b / 16)) + digit_value (digit (b % 16)) = omega (arith, high, low, halves b) in
-    (digit (b / 16), digit (b % 16), flat_map byte_digits bytes, refl, value, spell bytes are.1)
+    let value : b ≡ 16 * digit_value (hex_digit (b / 16)) + digit_value (hex_digit (b % 16)) = omega (arith, high, low, halves b) in
+    (hex_digit (b / 16), hex_digit (b % 16), flat_map byte_digits bytes, refl, value, spell bytes are.1)
 
 -- a blob's word is a blob, and of these bytes
 is_blob : (bytes : List ℕ) → AreBytes bytes → IsBlob (blob_word bytes)

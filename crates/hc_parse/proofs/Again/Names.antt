@@ -4,7 +4,8 @@ use Rattle.hc_lex.specs.declared.token.TokenKind.TheVariants as kind
 use Rattle.hc_lex.specs.Characters.{BeginsWith}
 use Rattle.hc_lex.specs.Quotes.{IsQuoted}
 use Rattle.hc_value.specs.declared.value.Value.TheVariants.{Text}
-use Rattle.hc_ast.specs.Words.{quoted, name_word}
+use Rattle.hc_text.specs.Quotes.{quoted}
+use Rattle.hc_ast.specs.Words.{name_word}
 use Rattle.hc_parse.specs.Lexemes.{IsName, IsLiteral}
 use Rattle.hc_parse.specs.Phrases.{One, Name}
 use Rattle.hc_parse.proofs.Again.Written.{Written, one_word}
@@ -12,7 +13,6 @@ use Rattle.hc_parse.proofs.Again.Signs.{not_before_space}
 
 -- what is quoted is a quoted token
 is_quoted : (quote : ℕ) (inner rest : List ℕ) → ¬ BeginsWith quote rest → IsQuoted quote (quoted quote inner) rest
-unfolding quoted
 is_quoted quote inner rest ends = (inner, refl, ends)
 
 -- a name

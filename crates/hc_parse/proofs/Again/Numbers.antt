@@ -9,7 +9,7 @@ use Rattle.std.specs.Str.Parse.{AllDigits, IsNumeral, digits_value, digits_value
 use Rattle.hc_lex.specs.declared.character.Run.TheVariants as run
 use Rattle.hc_lex.specs.declared.token.TokenKind.TheVariants as kind
 use Rattle.hc_lex.specs.Characters.{class_of, IsRun, GoesOn}
-use Rattle.hc_lex.specs.Tokens.{IsDigits, BeginsSpoiler, value_behind, value_of}
+use Rattle.hc_lex.specs.Tokens.{IsDigits, BeginsSpoiler, value_after, value_of}
 use Rattle.hc_parse.specs.Phrases.{Kind}
 use Rattle.hc_parse.proofs.Again.Written.{Written, kind_word}
 
@@ -22,11 +22,11 @@ are_digits [] all = tt
 are_digits (c ∷ digits) all = (is_digit c all.0, are_digits digits all.1)
 
 -- the value of a token's digits is that of the numeral
-same_value : (digits : List ℕ) (high : ℕ) → AllDigits 10 digits → value_behind high digits ≡ digits_value_after 10 high digits
+same_value : (digits : List ℕ) (high : ℕ) → AllDigits 10 digits → value_after high digits ≡ digits_value_after 10 high digits
 same_value [] high all = refl
 same_value (c ∷ digits) high all =
     let value : 10 * high + (c - 48) ≡ high * 10 + digit_value c = omega (arith, digit_value_digit c (digit_from_value c all.0)) in
-    ap (λ n. value_behind n digits) value ∙ same_value digits (high * 10 + digit_value c) all.1
+    ap (λ n. value_after n digits) value ∙ same_value digits (high * 10 + digit_value c) all.1
 
 not_empty : (digits : List ℕ) → 0 < length digits → digits ≢ []
 not_empty digits some none = let bad : 0 < 0 = subst (λ (l : List ℕ). 0 < length l) none some in omega (arith, bad)

@@ -1,7 +1,7 @@
 -- The bytes so far are written, each as its two digits.
 use Rattle.std.proofs.Common.{◌≡◌, ◌++◌, string_bytes, take, codes}
 use Rattle.std.specs.List.{flat_map}
-use Rattle.hc_ast.specs.Words.{byte_digits}
+use Rattle.hc_text.specs.Digits.{byte_digits}
 use Rattle.hc_ast.proofs.words.push_blob.Given as goal
 
 abbrev pub invariant-loop-b : goal.invariant-loop-b

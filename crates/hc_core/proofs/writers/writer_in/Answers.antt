@@ -1,6 +1,6 @@
 use Rattle.std.proofs.Common.{◌≡◌, ◌∙◌, sym, ap, true}
 use Rattle.hc_core.specs.Running.{holds_key}
-use Rattle.hc_core.proofs.Steps.{held_of, not_both_ways, stands_of, when_map, when_never}
+use Rattle.hc_core.proofs.Steps.{held_of, not_both_ways, written_of, when_map, when_never}
 use Rattle.hc_core.proofs.writers.writer_in.Goals as goal
 
 -- what is kept does not have the key
@@ -14,4 +14,4 @@ pub returns : goal.returns
 returns c =
     let held : holds_key c.args.key.now c.in-Some.running.now.writes.items ≡ true =
     ap (λ ws. holds_key c.args.key.now ws) (sym c.as_slice.ensures.value) ∙ sym c.has_key.ensures ∙ c.if-not-has_key.false in
-    when_map _ _ _ (λ t k. let s = stands_of c.in-Some.running.now t c.args.key.now k c.if-running-ne0.false held in (s.1, s.0, k.id, k.ord)) c.in-Some.ensures
+    when_map _ _ _ (λ t k. let s = written_of c.in-Some.running.now t c.args.key.now k c.if-running-ne0.false held in (s.1, s.0, k.id, k.ord)) c.in-Some.ensures

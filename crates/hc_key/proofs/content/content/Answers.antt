@@ -1,7 +1,7 @@
 use Rattle.std.proofs.Common.{◌≡◌, ◌+◌, ◌<◌, List, ℕ, ◌∷◌, [], length, arith, ap, subst, ◌∙◌}
 use Rattle.hc_key.specs.Keys.{escaped}
-use Rattle.hc_value.specs.Expected.{Completes, IsNext, IsRefused}
-use Rattle.hc_key.proofs.Contents.{fault_at_end, fault_at_byte, fault_behind_zero, all_read, placed, length-read, empty}
+use Rattle.hc_text.specs.Utf8.{Completes, IsNext, IsRefused}
+use Rattle.hc_key.proofs.Contents.{fault_at_end, fault_at_byte, fault_after_zero, all_read, placed, length-read, empty}
 use Rattle.hc_key.proofs.content.content.Goals as goal
 
 pub returns-in_default-next_expected-clause-fault : goal.returns-in_default-next_expected-clause-fault
@@ -13,26 +13,26 @@ returns-in_default-next_expected-clause-fault c =
     (length-read c.args.bytes.now c.loop-byte.out.items c.loop-byte.rest.now c.loop-byte.invariant.written)
     (fault_at_byte c.args.first c.loop-byte.expected c.args.bytes.now c.loop-byte.out.items c.loop-byte.rest.now c.in-Some.after.now c.in-Some.byte.now c.loop-byte.invariant.alive c.loop-byte.invariant.goes c.loop-byte.invariant.written first no_end refused)
 
-pub returns-in_default-behind_end-clause-fault : goal.returns-in_default-behind_end-clause-fault
-returns-in_default-behind_end-clause-fault c =
+pub returns-in_default-after_end-clause-fault : goal.returns-in_default-after_end-clause-fault
+returns-in_default-after_end-clause-fault c =
     let split : c.loop-byte.rest.now ≡ c.in-Some.byte.now ∷ c.in-Some.after.now = c.in-Some.ensures.cases.0 in
-    let none = c.in_default-behind_escape.ensures.none in
-    let next : IsNext c.loop-byte.expected c.in-Some.byte.now c.in-Some-next_expected.behind = c.in-Some-next_expected.ensures.next in
-    let next_zero : IsNext c.loop-byte.expected 0 c.in-Some-next_expected.behind = subst (λ (b : ℕ). IsNext c.loop-byte.expected b c.in-Some-next_expected.behind) none.0 next in
+    let none = c.in_default-after_escape.ensures.none in
+    let next : IsNext c.loop-byte.expected c.in-Some.byte.now c.in-Some-next_expected.next = c.in-Some-next_expected.ensures.next in
+    let next_zero : IsNext c.loop-byte.expected 0 c.in-Some-next_expected.next = subst (λ (b : ℕ). IsNext c.loop-byte.expected b c.in-Some-next_expected.next) none.0 next in
     let first : c.loop-byte.rest.now ≡ 0 ∷ c.in-Some.after.now = split ∙ ap (λ (b : ℕ). b ∷ c.in-Some.after.now) none.0 in
     let long = length-read c.args.bytes.now c.loop-byte.out.items c.loop-byte.rest.now c.loop-byte.invariant.written in
-    placed c.args.first c.args.bytes.now c.in-Some.after.now c.args.place (length (escaped c.loop-byte.out.items) + 1) c.bad_at-in_default-behind_end.result c.bad_at-in_default-behind_end.ensures
+    placed c.args.first c.args.bytes.now c.in-Some.after.now c.args.place (length (escaped c.loop-byte.out.items) + 1) c.bad_at-in_default-after_end.result c.bad_at-in_default-after_end.ensures
     (omega (arith, long, ap length first))
-    (fault_behind_zero c.args.first c.loop-byte.expected c.in-Some-next_expected.behind c.args.bytes.now c.loop-byte.out.items c.loop-byte.rest.now c.in-Some.after.now c.loop-byte.invariant.goes next_zero c.loop-byte.invariant.written first c.in_default-behind_end.ensures.none none.1)
+    (fault_after_zero c.args.first c.loop-byte.expected c.in-Some-next_expected.next c.args.bytes.now c.loop-byte.out.items c.loop-byte.rest.now c.in-Some.after.now c.loop-byte.invariant.goes next_zero c.loop-byte.invariant.written first c.in_default-after_end.ensures.none none.1)
 
-pub returns-in_default-behind_escape-clause-found : goal.returns-in_default-behind_escape-clause-found
-returns-in_default-behind_escape-clause-found c =
+pub returns-in_default-after_escape-clause-found : goal.returns-in_default-after_escape-clause-found
+returns-in_default-after_escape-clause-found c =
     let split : c.loop-byte.rest.now ≡ c.in-Some.byte.now ∷ c.in-Some.after.now = c.in-Some.ensures.cases.0 in
-    let none = c.in_default-behind_escape.ensures.none in
+    let none = c.in_default-after_escape.ensures.none in
     let done : Completes c.loop-byte.expected [] = c.in-Some-next_expected.ensures.ends (omega (arith, none.0)) in
-    let first : c.loop-byte.rest.now ≡ 0 ∷ 0 ∷ c.in-Some-behind_end.left.now =
-    split ∙ ap (λ (b : ℕ). b ∷ c.in-Some.after.now) none.0 ∙ ap (λ (l : List ℕ). 0 ∷ l) c.in-Some-behind_end.ensures.some in
-    all_read c.args.first c.loop-byte.expected c.args.bytes.now c.loop-byte.out.items c.loop-byte.rest.now c.in-Some-behind_end.left.now c.loop-byte.invariant.goes done c.loop-byte.invariant.written first
+    let first : c.loop-byte.rest.now ≡ 0 ∷ 0 ∷ c.in-Some-after_end.left.now =
+    split ∙ ap (λ (b : ℕ). b ∷ c.in-Some.after.now) none.0 ∙ ap (λ (l : List ℕ). 0 ∷ l) c.in-Some-after_end.ensures.some in
+    all_read c.args.first c.loop-byte.expected c.args.bytes.now c.loop-byte.out.items c.loop-byte.rest.now c.in-Some-after_end.left.now c.loop-byte.invariant.goes done c.loop-byte.invariant.written first
 
 pub returns-clause-fault : goal.returns-clause-fault
 returns-clause-fault c =

@@ -1,6 +1,6 @@
 use Rattle.std.proofs.Common.{arith, length}
 use Rattle.std.proofs.lemmas.Result.{err_from_is_err_and}
-use Rattle.hc_range.proofs.ByteStrings.{IsBytes}
+use Rattle.hc_text.proofs.ByteStrings.{IsBytes}
 use Rattle.hc_key.proofs.Whole.{tree_read, short_fault, no_fault}
 use Rattle.hc_key.specs.declared.fault.KeyFault.TheVariants.{Bad}
 use Rattle.hc_key.proofs.reading.values_of.Goals as goal
@@ -15,8 +15,8 @@ returns-in_default-clause-fault c =
     let are : IsBytes c.args.key.now = λ i. omega (arith, c.type_inv.key i) in
     short_fault c.args.key.now are c.in_default.ensures.cases
 
-pub values_behind-requires-clause-behind : goal.values_behind-requires-clause-behind
-values_behind-requires-clause-behind c =
+pub values_after-requires-clause-front : goal.values_after-requires-clause-front
+values_after-requires-clause-front c =
     let are : IsBytes c.args.key.now = λ i. omega (arith, c.type_inv.key i) in
     tree_read c.from_be_bytes-tree.result c.args.key.now c.in-Some.bytes.now c.in-Some.rest.now are (omega (arith, c.in-Some.ensures.cases.2)) c.in-Some.ensures.cases.0 c.in-Some.ensures.cases.1 c.from_be_bytes-tree.ensures
 

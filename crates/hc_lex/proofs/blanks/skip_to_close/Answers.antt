@@ -5,8 +5,8 @@ use Rattle.hc_lex.proofs.blanks.skip_to_close.Goals as goal
 
 pub returns-in-Some-skip_byte : goal.returns-in-Some-skip_byte
 returns-in-Some-skip_byte c =
-    closed_here _ _ c.in-Some.behind.now _ c.loop-first.invariant
-    (c.in-Some.ensures.cases.0 ∙ ap (λ b. b ∷ c.in-Some.behind.now) c.if-first-eq42.true) c.in-Some-skip_byte.ensures
+    closed_here _ _ c.in-Some.tail.now _ c.loop-first.invariant
+    (c.in-Some.ensures.cases.0 ∙ ap (λ b. b ∷ c.in-Some.tail.now) c.if-first-eq42.true) c.in-Some-skip_byte.ensures
 
 pub loop-first-preserved-in_default-skip_byte : goal.loop-first-preserved-in_default-skip_byte
 loop-first-preserved-in_default-skip_byte c =

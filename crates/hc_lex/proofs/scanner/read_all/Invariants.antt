@@ -1,10 +1,10 @@
--- The tokens so far are those of what was read, and each turn takes a byte at least.
-use Rattle.std.proofs.Common.{length}
-use Rattle.hc_lex.proofs.TokensSoFar.{TokensSoFar}
+-- The tokens so far are those up to a place of the text, and each turn goes on from there.
+use Rattle.std.proofs.Common.{◌-◌, length}
+use Rattle.hc_lex.specs.Reading.{HasTokensBetween}
 use Rattle.hc_lex.proofs.scanner.read_all.Given as goal
 
-abbrev pub invariant-loop-first : goal.invariant-loop-first
-invariant-loop-first l = TokensSoFar l.fn.bytes l.rest l.found.items
+abbrev pub invariant-loop-token : goal.invariant-loop-token
+invariant-loop-token l = HasTokensBetween l.text 0 l.at l.found.items
 
-abbrev pub decreases-loop-first : goal.decreases-loop-first
-decreases-loop-first l = length l.rest
+abbrev pub decreases-loop-token : goal.decreases-loop-token
+decreases-loop-token l = length l.text - l.at

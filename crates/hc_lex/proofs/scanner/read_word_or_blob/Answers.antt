@@ -11,7 +11,7 @@ returns-in-Some-skip_blob-clause-ok c =
       | then-first-eq120-via-then-first-eq120 w ↦ inl w.if-first-eq120.true
       | then-first-eq120-via-else-first-eq120+then-first-eq88 w ↦ inr w.if-first-eq88.true
     ] in
-    blob_here c.args.bytes.now c.args.first c.args.behind.now c.in-Some.digits.now _ c.requires.whole mark c.in-Some.ensures c.in-Some-skip_blob.ensures.some
+    blob_here c.args.bytes.now c.args.first c.args.tail.now c.in-Some.digits.now _ c.requires.whole mark c.in-Some.ensures c.in-Some-skip_blob.ensures.some
 
 pub returns-in-None-clause-err : goal.returns-in-None-clause-err
 returns-in-None-clause-err c =
@@ -20,4 +20,4 @@ returns-in-None-clause-err c =
       | then-first-eq120-via-else-first-eq120+then-first-eq88 w ↦ inr w.if-first-eq88.true
     ] in
     subst (λ flaw. IsFlaw flaw.kind flaw.offset c.args.bytes.now) (sym c.at_front.ensures)
-    (bad_blob c.args.bytes.now c.args.first c.args.behind.now c.in-Some.digits.now c.requires.whole mark c.in-Some.ensures c.in-None.ensures.none)
+    (bad_blob c.args.bytes.now c.args.first c.args.tail.now c.in-Some.digits.now c.requires.whole mark c.in-Some.ensures c.in-None.ensures.none)

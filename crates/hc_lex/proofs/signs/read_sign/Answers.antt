@@ -13,7 +13,7 @@ is_bar c =
 
 pub returns-in_default-clause-some : goal.returns-in_default-clause-some
 returns-in_default-clause-some c =
-    subst (λ first. IfSome c.read_bar.result (λ read. Skips (IsToken read.0) (first ∷ c.args.behind.now) read.1.now)) (sym (is_bar c)) c.read_bar.ensures.some
+    subst (λ first. IfSome c.read_bar.result (λ read. Skips (IsToken read.0) (first ∷ c.args.tail.now) read.1.now)) (sym (is_bar c)) c.read_bar.ensures.some
 
 pub returns-in_default-clause-none : goal.returns-in_default-clause-none
-returns-in_default-clause-none c = subst (λ first. IfNone c.read_bar.result (BeginsStray (first ∷ c.args.behind.now))) (sym (is_bar c)) c.read_bar.ensures.none
+returns-in_default-clause-none c = subst (λ first. IfNone c.read_bar.result (BeginsStray (first ∷ c.args.tail.now))) (sym (is_bar c)) c.read_bar.ensures.none

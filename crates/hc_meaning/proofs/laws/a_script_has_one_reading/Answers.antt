@@ -1,4 +1,4 @@
-use Rattle.hc_meaning.proofs.Scripts.{script_once}
+use Rattle.hc_meaning.proofs.Language.Scripts.{script_once}
 use Rattle.hc_meaning.proofs.laws.a_script_has_one_reading.Goals as goal
 
 pub returns : goal.returns

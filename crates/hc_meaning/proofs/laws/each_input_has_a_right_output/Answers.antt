@@ -1,4 +1,4 @@
-use Rattle.hc_meaning.proofs.SerialOutput.{has-right-output}
+use Rattle.hc_meaning.proofs.SerialRun.SerialOutput.{has-right-output}
 use Rattle.hc_meaning.proofs.laws.each_input_has_a_right_output.Goals as goal
 
 pub returns : goal.returns

@@ -1,5 +1,5 @@
 use Rattle.std.proofs.Common.{◌<◌, arith, rules}
-use Rattle.hc_record.proofs.Bounds.{groups_fit, one_more_fits, behind_one_more}
+use Rattle.hc_record.proofs.Bounds.{groups_fit, one_more_fits, read_one_more}
 use Rattle.hc_record.proofs.varint.split_varint.Goals as goal
 
 pub overflow_mul-result : goal.overflow_mul-result
@@ -17,7 +17,7 @@ overflow_add-n c = omega (arith, groups_fit c.loop.n c.loop.counter (omega (arit
 pub loop-preserved : goal.loop-preserved
 loop-preserved c =
     record {
-      same = rw c.from-in-loop.ensures (behind_one_more c.loop.n c.loop.counter c.in_ok-b.b.now c.loop.rest.now c.in_ok-b.after.now c.args.bytes.now c.loop-test.true c.if-b-lt128.false c.in_ok-b.ensures.cases.0 c.loop.invariant.same);
+      same = rw c.from-in-loop.ensures (read_one_more c.loop.n c.loop.counter c.in_ok-b.b.now c.loop.rest.now c.in_ok-b.after.now c.args.bytes.now c.loop-test.true c.if-b-lt128.false c.in_ok-b.ensures.cases.0 c.loop.invariant.same);
       fits = one_more_fits c.loop.n c.loop.counter c.from-in-loop.result c.loop.invariant.fits (let byte : c.in_ok-b.b.now < 256 = search rules in omega (arith, c.from-in-loop.ensures, byte));
       left = search (rules, c.loop.invariant.left, c.in_ok-b.ensures.cases);
     }

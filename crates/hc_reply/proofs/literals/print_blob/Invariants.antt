@@ -1,7 +1,7 @@
 -- The bytes so far are written, each as its two digits.
 use Rattle.std.proofs.Common.{◌≡◌, ◌++◌, take, flat_map, codes}
-use Rattle.hc_reply.specs.Output.{byte_digits}
-use Rattle.hc_reply.specs.Reading.{AreBytes}
+use Rattle.hc_text.specs.Digits.{byte_digits}
+use Rattle.hc_text.specs.Bytes.{AreBytes}
 use Rattle.hc_reply.proofs.literals.print_blob.Given as goal
 
 abbrev pub invariant-loop-b : goal.invariant-loop-b

@@ -1,6 +1,6 @@
 -- The bytes so far are written, each quote twice.
 use Rattle.std.proofs.Common.{◌≡◌, [], ◌∷◌, ◌++◌, take}
-use Rattle.hc_lex.specs.Quotes.{doubled}
+use Rattle.hc_text.specs.Quotes.{doubled}
 use Rattle.hc_reply.proofs.literals.print_text.Given as goal
 
 abbrev pub invariant-loop-b : goal.invariant-loop-b

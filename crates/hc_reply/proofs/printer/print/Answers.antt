@@ -1,16 +1,11 @@
 use Rattle.std.proofs.Common.{arith}
 use Rattle.std.proofs.lemmas.Grind.{common_steps}
-use Rattle.hc_reply.proofs.Printable.{TranscriptTold, one_more, transcripts_are}
+use Rattle.hc_transcript.specs.Outputs.{IsTranscript}
+use Rattle.hc_reply.proofs.Each.{one_more}
 use Rattle.hc_reply.proofs.printer.print.Goals as goal
 
 pub loop-transcript-preserved : goal.loop-transcript-preserved
 loop-transcript-preserved c = record {
   text = grind (arith, common_steps);
-  told = one_more TranscriptTold c.args.all.now c.loop-transcript.transcript-index c.transcript-item.result c.transcript-item.is c.loop-transcript-test.true c.loop-transcript.invariant.told c.in_ok-print_transcript.ensures.fits;
+  told = one_more IsTranscript c.args.all.now c.loop-transcript.transcript-index c.transcript-item.result c.transcript-item.is c.loop-transcript-test.true c.loop-transcript.invariant.told c.in_ok-print_transcript.ensures.fits;
 }
-
-pub returns-clause-printable : goal.returns-clause-printable
-returns-clause-printable c = λ have. (
-  c.requires.ascending,
-  transcripts_are c.args.all.now c.loop-transcript.transcript-index c.loop-transcript-test.false c.loop-transcript.invariant.told c.requires.replies have,
-)

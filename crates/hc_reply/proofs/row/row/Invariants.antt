@@ -1,7 +1,6 @@
 -- The values so far are read, each with its bar.
 use Rattle.std.proofs.Common.{◌≡◌, ◌++◌, length}
-use Rattle.hc_reply.specs.Rows.{ArePrintable}
-use Rattle.hc_reply.proofs.Rows.{before_bars}
+use Rattle.hc_reply.proofs.Rows.{before_bars, ArePrintable}
 use Rattle.hc_reply.proofs.row.row.Given as goal
 
 abbrev pub invariant-loop-values : goal.invariant-loop-values

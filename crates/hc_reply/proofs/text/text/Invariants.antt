@@ -1,15 +1,15 @@
 -- The bytes so far are the beginning of a text in quotes, which goes on with what is expected.
 use Rattle.std.proofs.Common.{◌≡◌, ◌∷◌, ◌++◌, length}
-use Rattle.hc_lex.specs.Quotes.{doubled}
-use Rattle.hc_value.specs.declared.expected.Expected.TheVariants.{Character}
-use Rattle.hc_value.specs.Expected.{IsOpen, GoesOn}
+use Rattle.hc_text.specs.Quotes.{doubled}
+use Rattle.hc_text.specs.declared.utf8.Expected.TheVariants.{Character}
+use Rattle.hc_text.specs.Utf8.{IsOpen, HasRead}
 use Rattle.hc_reply.proofs.text.text.Given as goal
 
 abbrev pub invariant-loop-byte : goal.invariant-loop-byte
 invariant-loop-byte l = record {
   written : l.bytes ≡ (39 ∷ doubled 39 l.out.items) ++ l.rest;
   alive : IsOpen l.expected;
-  goes : GoesOn Character l.out.items l.expected;
+  goes : HasRead Character l.out.items l.expected;
 }
 
 abbrev pub decreases-loop-byte : goal.decreases-loop-byte

@@ -11,7 +11,7 @@ invariant_of-self c = kept_open c.in-Some.running _ _ _ _ _ _ _ (after_decide (D
     (sym c.take.ensures.value ∙ c.in-Some.is) c.self.invariant.0 c.self.invariant.1 c.note.ensures c.requires.event
     (λ ts. refl) (λ t. refl) (λ t e h. (e, matches_decided c.in-Some.running _ c.args.number t (λ z. omega (arith, z, c.requires.number)) h))
 
--- what was kept of the writes is what stands put
+-- what was kept of the writes is what is in the write set
 pub returns-clause-writes : goal.returns-clause-writes
 returns-clause-writes c =
     let now = open_of _ c.in-Some.running _ (sym c.take.ensures.value ∙ c.in-Some.is) c.self.invariant.0 in

@@ -5,7 +5,7 @@ use Rattle.hc_core.proofs.Conns.{kept_open, open_of, when_both}
 use Rattle.hc_core.proofs.Matching.{matches_put, matches_same}
 use Rattle.hc_core.proofs.conn.Conn.put.Goals as goal
 
--- the write stands
+-- the write is
 pub invariant_of-self-2 : goal.invariant_of-self-2
 invariant_of-self-2 c = kept_open c.in-Some.running _ _ _ _ _ _ _ (after_put c.args.write.key c.args.write.rec Done) _
     (sym c.take.ensures.value ∙ c.in-Some.is) c.self.invariant.0 c.self.invariant.1 c.note.ensures c.requires.event

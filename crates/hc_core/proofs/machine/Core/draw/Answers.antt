@@ -39,7 +39,7 @@ invariant_of-self-2 c =
     let within = open_in_range m c.args.conn _ found in
     let o = opened (txns_of m c.args.conn) (Matches c.in-Some.running.now) found in
     let none : o.t.id ≡ 0 = sym (o.holds).id ∙ c.if-running-ne0.false in
-    let undecided = ((newest_sound c.self.invariant.sound.sound c.args.conn o.t o.rest o.is).undrawn none).0 in
+    let undecided = ((newest_sound c.self.invariant.sound.sound c.args.conn o.t o.rest o.is).numbers.undrawn none).0 in
     let settles = settles_drawn o.t (c.self.inside.drawn + 1) c.args.ord undecided in
     let enabled = draw_enabled m c.args.conn c.args.ord c.last_ord.result c.in-Some.running.now _ _ found c.if-running-ne0.false
     c.index.ensures c.last_ord.ensures c.if-ord-last_ord.false c.self.invariant.bounded c.if-self.false in

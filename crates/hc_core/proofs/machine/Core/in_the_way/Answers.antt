@@ -1,6 +1,6 @@
 use Rattle.std.proofs.Common.{◌≡◌, sym, subst, get_or, ℕ, List, [], MatchOption}
 use Rattle.std.proofs.lemmas.List.{length-map}
-use Rattle.hc_core.specs.Account.{Stands, Txn, WhenOpen, txns}
+use Rattle.hc_core.specs.Account.{HasWritten, Txn, WhenOpen, txns}
 use Rattle.hc_core.specs.Commits.{IsMetAbove, IsNoneAbove}
 use Rattle.hc_core.specs.Kept.{machine_of}
 use Rattle.hc_core.specs.Machine.{IsFree, Machine, Names, txns_of}
@@ -16,11 +16,11 @@ use Rattle.hc_core.proofs.machine.Core.in_the_way.Goals as goal
 pub returns : goal.returns
 returns c =
     let m = machine_of c.self.inside.drawn c.self.inside.log.items c.self.inside.conns.items in
-    let none_open : (j : ℕ) → WhenOpen (txns_of m j) (λ t. (t.place ≡ 0) × Stands t c.args.key.now) → ⊥ =
-    λ j. subst (λ (conns : List (List Entry)). WhenOpen (txns (get_or conns j [])) (λ t. (t.place ≡ 0) × Stands t c.args.key.now) → ⊥)
+    let none_open : (j : ℕ) → WhenOpen (txns_of m j) (λ t. (t.place ≡ 0) × HasWritten t c.args.key.now) → ⊥ =
+    λ j. subst (λ (conns : List (List Entry)). WhenOpen (txns (get_or conns j [])) (λ t. (t.place ≡ 0) × HasWritten t c.args.key.now) → ⊥)
     c.as_slice.ensures.value (c.in_default.ensures j) in
     let Free : Machine → Type 0 = λ n. (i : ℕ) → IsFree (txns_of n) i c.args.snapshot c.args.key.now in
-    let Meets : Machine → MetRecord → Type 0 = λ n met. (i : ℕ) → (WhenOpen (txns_of n i) (λ t. (t.place ≡ 0) × Stands t c.args.key.now) → ⊥)
+    let Meets : Machine → MetRecord → Type 0 = λ n met. (i : ℕ) → (WhenOpen (txns_of n i) (λ t. (t.place ≡ 0) × HasWritten t c.args.key.now) → ⊥)
     → (j : ℕ) × (u : Txn) × IsInTheWay (txns_of n) i c.args.snapshot c.args.key.now j u × Names met j u c.args.key.now in
     subst (λ (n : Machine). MatchOption c.met_above.result (Free n) (Meets n)) c.self.view_is
     (match_map _ _ (Free m) _ (Meets m) c.met_above.ensures

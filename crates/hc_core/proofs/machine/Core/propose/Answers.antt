@@ -24,7 +24,7 @@ overflow_cast-number c = let short : c.len.result < 2 ^ 32 = omega (arith, short
 pub overflow_add-number : goal.overflow_add-number
 overflow_add-number c = search (rules, short_log c)
 
--- a proposal leaves what is decided and what stands
+-- a proposal leaves what is decided and what is written
 pub invariant_of-self : goal.invariant_of-self
 invariant_of-self c =
     let open_now = found_open _ _ c.args.conn c.in-Some.running.now (λ t. (t.id ≢ 0) × (t.place ≡ 0)) c.self.view_is c.in-Some.ensures

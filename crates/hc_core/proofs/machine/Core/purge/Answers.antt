@@ -1,6 +1,6 @@
 use Rattle.std.proofs.Common.{◌≡◌, ◌≤◌, refl, sym, subst, inl, inr, get_or, ℕ, List, []}
 use Rattle.std.proofs.lemmas.List.{length-map}
-use Rattle.hc_core.specs.Account.{Stands, WhenOpen, txns}
+use Rattle.hc_core.specs.Account.{HasWritten, WhenOpen, txns}
 use Rattle.hc_core.specs.Commits.{HasNoTombstone, IsLastTombstone}
 use Rattle.hc_core.specs.Kept.{machine_of}
 use Rattle.hc_core.specs.Machine.{IsForgettable, Machine, txns_of}
@@ -17,7 +17,7 @@ pub returns-then-has_writer : goal.returns-then-has_writer
 returns-then-has_writer c =
     let m = machine_of c.self.inside.drawn c.self.inside.log.items c.self.inside.conns.items in
     let writer = c.has_writer.ensures.yes c.if-has_writer.true in
-    let there = subst (λ (conns : List (List Entry)). WhenOpen (txns (get_or conns writer.0 [])) (λ t. (t.place ≡ 0) × Stands t c.args.key.now)) c.as_slice.ensures.value writer.1 in
+    let there = subst (λ (conns : List (List Entry)). WhenOpen (txns (get_or conns writer.0 [])) (λ t. (t.place ≡ 0) × HasWritten t c.args.key.now)) c.as_slice.ensures.value writer.1 in
     inr (subst (λ (n : Machine). IsForgettable (txns_of n) c.args.key.now → ⊥) c.self.view_is (λ f. forgettable_closed c.self.invariant.sound.sound c.self.inside.log.items c.self.invariant.logged (sym (length-map c.self.inside.log.items (λ (commit : Commit). commit.tid))) c.args.key.now f writer.0 there), refl)
 
 -- the newest commit of the key is no tombstone
@@ -45,8 +45,8 @@ returns-then-not-are_above c =
 pub returns : goal.returns
 returns c =
     let m = machine_of c.self.inside.drawn c.self.inside.log.items c.self.inside.conns.items in
-    let none_open : (j : ℕ) → WhenOpen (txns_of m j) (λ t. (t.place ≡ 0) × Stands t c.args.key.now) → ⊥ =
-    λ j. subst (λ (conns : List (List Entry)). WhenOpen (txns (get_or conns j [])) (λ t. (t.place ≡ 0) × Stands t c.args.key.now) → ⊥)
+    let none_open : (j : ℕ) → WhenOpen (txns_of m j) (λ t. (t.place ≡ 0) × HasWritten t c.args.key.now) → ⊥ =
+    λ j. subst (λ (conns : List (List Entry)). WhenOpen (txns (get_or conns j [])) (λ t. (t.place ≡ 0) × HasWritten t c.args.key.now) → ⊥)
     c.as_slice.ensures.value (c.has_writer.ensures.none c.if-has_writer.false j) in
     let last = subst (λ (log : List Commit). IsLastTombstone c.args.key.now log c.in-Some.place) c.as_slice-2.ensures.value c.in-Some.ensures in
     let all : (i : ℕ) → WhenOpen (txns_of m i) (λ t. t.snapshot ≤ c.in-Some.place) → ⊥ =

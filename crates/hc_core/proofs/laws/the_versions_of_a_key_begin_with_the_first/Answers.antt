@@ -1,5 +1,0 @@
-use Rattle.hc_core.proofs.FirstVersion.{versions_begin}
-use Rattle.hc_core.proofs.laws.the_versions_of_a_key_begin_with_the_first.Goals as goal
-
-pub returns : goal.returns
-returns c = versions_begin

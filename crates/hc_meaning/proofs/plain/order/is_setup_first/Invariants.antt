@@ -1,8 +1,0 @@
--- So far connection 0's transactions are those of the setup.
-use Rattle.std.proofs.Common.{◌≡◌, ◌<◌, ℕ, Some}
-use Rattle.std.specs.Prelude.{◌↔◌, slice_get}
-use Rattle.hc_meaning.specs.declared.transaction.Transaction.{Transaction}
-use Rattle.hc_meaning.proofs.plain.order.is_setup_first.Given as goal
-
-abbrev pub invariant-loop-k : goal.invariant-loop-k
-invariant-loop-k l = (i : ℕ) (t : Transaction) → i < l.k → slice_get l.history i ≡ Some t → (t.conn ≡ 0) ↔ (i < l.setup)

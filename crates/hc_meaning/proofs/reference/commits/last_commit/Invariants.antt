@@ -1,0 +1,12 @@
+-- No commit number so far is greater, and one is it.
+use Rattle.std.proofs.Common.{◌≡◌, ◌<◌, ◌≤◌, take, ℕ}
+use Rattle.std.specs.Prelude.{All, Contains}
+use Rattle.hc_transcript.specs.declared.reply.Ending.TheVariants.{Commit}
+use Rattle.hc_meaning.specs.declared.transaction.Transaction.{Transaction}
+use Rattle.hc_meaning.proofs.reference.commits.last_commit.Given as goal
+
+abbrev pub invariant-loop-transaction : goal.invariant-loop-transaction
+invariant-loop-transaction l = record {
+  greatest : All (λ t. (k : ℕ) → t.ending ≡ Commit k → k ≤ l.last) (take l.transaction-index l.transactions);
+  printed : 0 < l.last → (t : Transaction) × Contains l.transactions t × (t.ending ≡ Commit l.last);
+}

@@ -1,0 +1,5 @@
+pub mod ByteStrings
+mod Characters
+pub mod Doubled
+pub mod Ends
+pub mod HexDigits

@@ -1,0 +1,91 @@
+// The places of the values are SQLite's: section 4.1 of https://www.sqlite.org/datatype3.html.
+use hc_value::{Blob, Class, NoMemory, Str, Value, class, cmp, copy};
+use std::alloc::Global;
+use std::test::Fail;
+
+fn text(alloc: Global, text: &str) -> Result<Value, NoMemory> {
+    Ok(Value::Text(Str::from_text(alloc, text)?))
+}
+
+fn blob(alloc: Global, bytes: &[u8]) -> Result<Value, NoMemory> {
+    Ok(Value::Blob(Blob::from_slice(alloc, bytes)?))
+}
+
+// In ascending order.
+fn ladder(alloc: Global) -> Result<Vec<Value>, NoMemory> {
+    let mut values = Vec::new(alloc);
+    values.push(Value::Null)?;
+    for n in [i64::MIN, -256, -1, 0, 1, 255, i64::MAX] {
+        values.push(Value::Int(n))?;
+    }
+    for s in [
+        "",
+        "\0",
+        "10",
+        "9",
+        "A",
+        "a",
+        "ab",
+        "b",
+        "zz",
+        "ä",
+        "€",
+        "\u{1d11e}",
+    ] {
+        values.push(text(alloc, s)?)?;
+    }
+    values.push(blob(alloc, b"")?)?;
+    values.push(blob(alloc, b"\x00")?)?;
+    values.push(blob(alloc, b"\x00\x00")?)?;
+    values.push(blob(alloc, b"\x00\xff")?)?;
+    values.push(blob(alloc, b"\x7f")?)?;
+    values.push(blob(alloc, b"\x80")?)?;
+    Ok(values)
+}
+
+#[test]
+fn values_stand_in_one_order(rt: HostRuntime) -> Result<(), Fail> {
+    let values = ladder(rt.alloc())?;
+    for (i, a) in values.iter().enumerate() {
+        for (j, b) in values.iter().enumerate() {
+            assert_eq!(rt; cmp(a, b), i.cmp(&j), "{a:?} and {b:?}");
+            assert_eq!(rt; *a == *b, i == j);
+        }
+    }
+    Ok(())
+}
+
+#[test]
+fn a_copy_is_the_same_value_of_the_same_class(rt: HostRuntime) -> Result<(), Fail> {
+    let values = ladder(rt.alloc())?;
+    for value in &values {
+        let copied = copy(rt.alloc(), value)?;
+        assert_eq!(rt; copied, *value);
+        assert_eq!(rt; class(&copied), class(value));
+    }
+    Ok(())
+}
+
+#[test]
+fn each_value_has_its_class(rt: HostRuntime) -> Result<(), Fail> {
+    let alloc = rt.alloc();
+    assert_eq!(rt; class(&Value::Null), Class::Null);
+    assert_eq!(rt; class(&Value::Int(7)), Class::Int);
+    assert_eq!(rt; class(&text(alloc, "7")?), Class::Text);
+    assert_eq!(rt; class(&blob(alloc, b"7")?), Class::Blob);
+    Ok(())
+}
+
+#[test]
+fn texts_and_blobs_are_made_of_what_is_there(rt: HostRuntime) -> Result<(), Fail> {
+    let alloc = rt.alloc();
+    let taken = Str::from_string(String::from_str(alloc, "grün")?);
+    assert_eq!(rt; taken.as_bytes(), b"gr\xc3\xbcn".as_slice());
+    assert_eq!(rt; taken, Str::from_text(alloc, "grün")?);
+    let bytes = [0u8, 255].to_vec(alloc)?;
+    assert_eq!(rt;
+        Blob::from_vec(bytes),
+        Blob::from_slice(alloc, b"\x00\xff")?
+    );
+    Ok(())
+}

@@ -1,8 +1,0 @@
--- The bytes so far are digits.
-use Rattle.std.proofs.Common.{take}
-use Rattle.std.specs.List.{AllByRecursion}
-use Rattle.hc_meaning.specs.Front.{IsDigit}
-use Rattle.hctree.proofs.script.split_digits.Given as goal
-
-abbrev pub invariant-loop-i : goal.invariant-loop-i
-invariant-loop-i l = AllByRecursion IsDigit (take l.i l.bytes)
