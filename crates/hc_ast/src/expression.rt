@@ -9,7 +9,7 @@ pub enum Expr {
     Value(Value),
     /// A column, with a table's name where one is written before it.
     Name {
-        table: Option<Str>,
+        table: Option<Boxed<Str>>,
         column: Str,
     },
     /// `NOT`
@@ -45,7 +45,7 @@ pub enum Expr {
     },
     /// A function's call with one argument at least. Any name may stand here.
     Call {
-        name: Str,
+        name: Boxed<Str>,
         args: Items<Expr>,
     },
     /// `name(*)`

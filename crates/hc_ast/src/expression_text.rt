@@ -6,6 +6,7 @@ ghost use Rattle.hc_ast.specs.Expressions.{expression_words, operator_words, qua
 use crate::words::{push_name, push_value, push_word};
 use crate::{BinaryOp, Expr, NoMemory};
 use hc_value::Str;
+use sqlite_items::Boxed;
 
 fn push_operator(out: &mut String, op: BinaryOp) -> Result<(), NoMemory>
     ensures { OnOk result (string_bytes out.new ≡ string_bytes out.old ++ spaced (operator_words op)) }
@@ -47,13 +48,13 @@ fn push_star(out: &mut String) -> Result<(), NoMemory>
 }
 
 // The table's name before a column's.
-fn push_qualifier(out: &mut String, table: &Option<Str>) -> Result<(), NoMemory>
+fn push_qualifier(out: &mut String, table: &Option<Boxed<Str>>) -> Result<(), NoMemory>
     ensures { OnOk result (string_bytes out.new ≡ string_bytes out.old ++ spaced (qualifier_words table.now)) }
 {
     match table {
         None => Ok(()),
         Some(table) => {
-            push_name(out, table)?;
+            push_name(out, table.get())?;
             push_word(out, ".")
         }
     }
@@ -114,7 +115,7 @@ pub fn push_expression(out: &mut String, value: &Expr) -> Result<(), NoMemory>
             push_word(out, ")")
         }
         Expr::Call { name, args } => {
-            push_name(out, name)?;
+            push_name(out, name.get())?;
             push_enclosed(out, args.as_slice())
         }
         Expr::CallAll { name } => {

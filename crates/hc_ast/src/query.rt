@@ -1,6 +1,6 @@
 use crate::Expr;
 use hc_value::Str;
-use sqlite_items::Items;
+use sqlite_items::{Boxed, Items};
 
 /// A query.
 #[derive(Debug, Drop)]
@@ -33,7 +33,10 @@ pub enum Item {
     /// `name.*`, which wants `FROM`.
     AllOf(Str),
     /// An expression, with its alias where it has one.
-    One { value: Expr, alias: Option<Str> },
+    One {
+        value: Expr,
+        alias: Option<Boxed<Str>>,
+    },
 }
 
 /// A table of `FROM`.
@@ -42,7 +45,7 @@ pub struct FromTable {
     /// The table's name.
     pub name: Str,
     /// Its alias, where it has one.
-    pub alias: Option<Str>,
+    pub alias: Option<Boxed<Str>>,
     /// Whether `JOIN`, and no comma, stands before it. False for the first.
     pub joined: bool,
     /// The condition of `ON`, which wants `JOIN`.

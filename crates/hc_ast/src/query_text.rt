@@ -8,15 +8,16 @@ use crate::phrase::{Phrase, push_each, push_list};
 use crate::words::{push_integer, push_name, push_word};
 use crate::{Expr, FromTable, Item, NoMemory, Select, Term};
 use hc_value::Str;
+use sqlite_items::Boxed;
 
-fn push_alias(out: &mut String, alias: &Option<Str>) -> Result<(), NoMemory>
+fn push_alias(out: &mut String, alias: &Option<Boxed<Str>>) -> Result<(), NoMemory>
     ensures { OnOk result (string_bytes out.new ≡ string_bytes out.old ++ spaced (alias_words alias.now)) }
 {
     match alias {
         None => Ok(()),
         Some(alias) => {
             push_word(out, "AS")?;
-            push_name(out, alias)
+            push_name(out, alias.get())
         }
     }
 }

@@ -1,1 +1,6 @@
+pub mod ByteWords
 pub mod Entries
+pub mod KeyOrder
+pub mod OneWord
+pub mod Places
+pub mod Quarters

@@ -1,1 +1,5 @@
+pub mod Content
 pub mod Entries
+pub mod Laws
+pub mod Layout
+pub mod Words

@@ -1,5 +1,5 @@
 // The limit of an entry.
-ghost use Rattle.std.specs.Prelude.{◌≡◌, ◌≤◌, ℕ, true};
+ghost use Rattle.std.specs.Prelude.{◌≡◌};
 ghost use Rattle.hc_base.specs.Entries.{entry_fits};
 
 /// Whether a key and a record of these lengths are within the limit of an entry.
@@ -8,8 +8,3 @@ pub fn entry_fits(key_len: u64, rec_len: u64) -> bool
 {
     key_len <= 463 && rec_len <= 464 - key_len
 }
-
-/// Whatever the limit is, a key of an entry has at most 463 bytes.
-pub fn a_fitting_key_is_short()
-    ensures { (key_len rec_len : ℕ) → entry_fits key_len rec_len ≡ true → key_len ≤ 463 }
-{}

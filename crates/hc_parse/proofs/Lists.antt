@@ -1,123 +1,84 @@
--- The reader of a list with commas reads exactly such lists.
-use Rattle.std.proofs.Common.{◌≡◌, inr, ◌∙◌, ap, ℕ, ◌+◌, true, List, [], ◌∷◌, ◌++◌, refl, sym, subst, Err, append_assoc}
-use Rattle.std.proofs.lemmas.List.{append-nil}
+-- Lists with commas, as loops read them.
+use Rattle.std.proofs.Common.{◌≡◌, refl, sym, ap, subst, ◌∙◌, ℕ, ◌+◌, ◌<◌, true, false, if◌then◌else◌, List, [], ◌∷◌, ◌++◌, drop, Ok, Err}
 use Rattle.hc_lex.specs.declared.token.TokenKind.{TokenKind}
 use Rattle.hc_lex.specs.declared.token.TokenKind.TheVariants as kind
-use Rattle.hc_parse.specs.Lexemes.{Lexeme}
-use Rattle.hc_parse.specs.Limits.{Limits}
-use Rattle.hc_parse.specs.Phrases.{Kind, ◌⨾◌, Each, Listed, folded}
-use Rattle.hc_parse.specs.Kinds.{among, Starts}
-use Rattle.hc_parse.specs.Reads.{Stop, Rule, Reader, Completes, OrNone, Reaches, Sounds, Sticks, HasSome, IsStuck}
-use Rattle.hc_parse.specs.Readers.{made, skip, listed, pushed}
-use Rattle.hc_parse.specs.Rules.{Made, Skipped, Parts, Chained, apart}
-use Rattle.hc_parse.proofs.Lifts.{goes_in}
-use Rattle.hc_parse.proofs.RuleChanges.{same_reaches, same_sounds, same_sticks}
-use Rattle.hc_parse.proofs.Simple.{made_reaches, made_sounds, made_sticks}
-use Rattle.hc_parse.proofs.SkippedKinds.{kinds_start, skip_reaches, skip_sounds, skip_sticks}
-use Rattle.hc_parse.proofs.KindLists.{starts_behind}
-use Rattle.hc_parse.proofs.Gather.{starts_filled}
-use Rattle.hc_parse.proofs.Chains.{chain_reaches, chain_sounds, chain_sticks}
+use Rattle.hc_grammar.specs.Grammar.{Grammar, Word}
+use Rattle.hc_grammar.specs.Kinds.{is, among, head_is}
+use Rattle.hc_grammar.specs.Lexemes.{Lexeme}
+use Rattle.hc_grammar.specs.Marks.{Plain}
+use Rattle.hc_grammar.specs.Phrases.{pushed}
+use Rattle.hc_grammar.specs.Places.{run_of}
+use Rattle.hc_grammar.specs.Runs.{Budget, Run, Runner, Stop, word}
+use Rattle.hc_parse.specs.declared.cursor.Cursor.{Cursor}
+use Rattle.hc_parse.specs.declared.source.Source.{Source}
+use Rattle.hc_parse.specs.Coded.{Accepts, Gives}
+use Rattle.hc_parse.specs.declared.stop.Stop.{Stop as Halt}
+use Rattle.hc_parse.specs.declared.stop.Stop.TheVariants as halt
+use Rattle.hc_parse.specs.Seen.{left, budget_of}
+use Rattle.hc_parse.proofs.Gathers.{Gathers, gathers_end, gathers_on, gathers_stop}
 
--- values that are pushed behind others stand behind them
-pub folded_pushed : {A : Type 0} (first parts : List A) → folded pushed first parts ≡ first ++ parts
-folded_pushed first [] = sym (append-nil first)
-folded_pushed first (x ∷ parts) = folded_pushed (pushed first x) parts ∙ append_assoc first (x ∷ []) parts
+-- a lexeme of this kind is passed, and then the rest is read
+pub word_read : {A : Type 0} (kind : TokenKind) (next : Runner A) (b c : Budget) (t u : List Lexeme) (r : Run A)
+    → head_is (is kind) t ≡ true → c ≡ b → u ≡ drop 1 t → next c u ≡ r → word Plain kind next b t ≡ r
+word_read kind next b c t u r found same on e = rw found (ap (λ d. next d (drop 1 t)) (sym same) ∙ ap (λ l. next c l) (sym on) ∙ e)
 
--- `c` is what a value costs, and `e` what a list of them does
-module _ {A : Type 0} (At : Limits → Type 0) (P : Rule A) (c : A → ℕ) (e : List A → ℕ) (read : Reader A) (single : (x : A) → e (x ∷ []) ≡ c x) (joined : (xs : List A) (x : A) → e (pushed xs x) ≡ e xs + c x) where
-  -- the list that has the first value alone
-  abbrev Start : Rule (List A)
-  Start = Made (λ x. x ∷ []) P
+pub comma_read : {A : Type 0} (g : Grammar A) (levels : ℕ) (source : Source) (before after : Cursor) (r : Run A) → Accepts source kind.Comma before after true
+    → run_of levels g (budget_of after) (left source after) ≡ r → run_of levels (Word Plain kind.Comma g) (budget_of before) (left source before) ≡ r
+comma_read g levels source before after r a e =
+    word_read kind.Comma (run_of levels g) (budget_of before) (budget_of after) (left source before) (left source after) r (sym a.0.0) a.1.0 a.1.1 e
 
-  -- a comma and a value
-  abbrev Part : List A → Rule A
-  Part before = Skipped (kind.Comma ∷ []) P
+-- one more
+pub listed_on : {A : Type 0} (g : Grammar A) (levels : ℕ) {whole : Run (List A)} {counter end : ℕ} {value made : List A} {x : A} (source : Source) (before after last : Cursor)
+    → Gathers (kind.Comma ∷ []) (λ xs. run_of levels (Word Plain kind.Comma g)) pushed whole counter end value (budget_of before) (left source before)
+    → counter < end → Accepts source kind.Comma before after true
+    → run_of levels g (budget_of after) (left source after) ≡ Ok (x, budget_of last, left source last)
+    → made ≡ value ++ x ∷ []
+    → Gathers (kind.Comma ∷ []) (λ xs. run_of levels (Word Plain kind.Comma g)) pushed whole (counter + 1) end made (budget_of last) (left source last)
+listed_on {A} g levels {whole} {counter} {end} {value} {made} {x} source before after last gathers lt a e same =
+    subst (λ (xs : List A). Gathers (kind.Comma ∷ []) (λ ys. run_of levels (Word Plain kind.Comma g)) pushed whole (counter + 1) end xs (budget_of last) (left source last)) (sym same)
+    (gathers_on {part = λ xs. run_of levels (Word Plain kind.Comma g)} gathers lt (sym a.0.1) (comma_read g levels source before after (Ok (x, budget_of last, left source last)) a e))
 
-  -- a list with commas
-  abbrev Whole : Rule (List A)
-  Whole l xs front = Listed (P l) xs front
+-- what follows a comma is at fault
+pub listed_stop : {A : Type 0} (g : Grammar A) (levels : ℕ) {whole : Run (List A)} {counter end : ℕ} {value : List A} {stop : Stop × List Lexeme} (source : Source) (before after : Cursor)
+    → Gathers (kind.Comma ∷ []) (λ xs. run_of levels (Word Plain kind.Comma g)) pushed whole counter end value (budget_of before) (left source before)
+    → counter < end → Accepts source kind.Comma before after true
+    → run_of levels g (budget_of after) (left source after) ≡ Err stop → whole ≡ Err stop
+listed_stop g levels {whole} {counter} {end} {value} {stop} source before after gathers lt a e =
+    gathers_stop {part = λ xs. run_of levels (Word Plain kind.Comma g)} gathers lt (sym a.0.1) (comma_read g levels source before after (Err stop) a e)
 
-  -- a list as a chain
-  abbrev Chain : Rule (List A)
-  Chain = Chained Start Part pushed
+-- the same for whichever stop of the code
+pub listed_halt : {A : Type 0} (g : Grammar A) (levels : ℕ) {whole : Run (List A)} {counter end : ℕ} {value : List A} (source : Source) (before after last : Cursor) (stop : Halt)
+    → Gathers (kind.Comma ∷ []) (λ xs. run_of levels (Word Plain kind.Comma g)) pushed whole counter end value (budget_of before) (left source before)
+    → counter < end → Accepts source kind.Comma before after true
+    → Gives {A = A} source (Err stop) last (run_of levels g (budget_of after) (left source after)) → Gives {A = List A} source (Err stop) last whole
+listed_halt g levels source before after last halt.Unexpected gathers lt a e = listed_stop g levels source before after gathers lt a e
+listed_halt g levels source before after last halt.TooDeep gathers lt a e = listed_stop g levels source before after gathers lt a e
+listed_halt g levels source before after last halt.NoMemory gathers lt a e = tt
 
-  -- parts are values with a comma before each
-  each_of : (value : List A) (l : Limits) (parts : List A) (front : List Lexeme) → Parts Part pushed value l parts front → Each (λ y. Kind kind.Comma ⨾ P l y) parts front
-  each_of value l [] front h = h
-  each_of value l (x ∷ parts) front h = (h.0, h.1, h.2, h.3, each_of (pushed value x) l parts h.1 h.4)
+-- no comma is next
+pub listed_end : {A : Type 0} {part : List A → Runner A} {whole : Run (List A)} {counter end : ℕ} {value : List A} (source : Source) (before after : Cursor)
+    → Gathers (kind.Comma ∷ []) part pushed whole counter end value (budget_of before) (left source before)
+    → Accepts source kind.Comma before after false → whole ≡ Ok (value, budget_of after, left source after)
+listed_end {A} {part} {whole} {counter} {end} {value} source before after gathers a =
+    gathers_end gathers (sym a.0.1) ∙ ap (λ b. Ok (value, b, left source before)) (sym a.1) ∙ ap (λ t. Ok (value, budget_of after, t)) (sym a.2)
 
-  -- values with a comma before each are parts
-  parts_of : (value : List A) (l : Limits) (parts : List A) (front : List Lexeme) → Each (λ y. Kind kind.Comma ⨾ P l y) parts front → Parts Part pushed value l parts front
-  parts_of value l [] front h = h
-  parts_of value l (x ∷ parts) front h = (h.0, h.1, h.2, h.3, parts_of (pushed value x) l parts h.1 h.4)
+-- the same value at the same place
+pub same_answer : {A : Type 0} {whole : Run A} {x y : A} (source : Source) (a b : Cursor) → whole ≡ Ok (x, budget_of a, left source a) → y ≡ x → b ≡ a → whole ≡ Ok (y, budget_of b, left source b)
+same_answer {A} {whole} {x} {y} source a b e same here =
+    e ∙ ap (λ z. Ok (z, budget_of a, left source a)) (sym same) ∙ ap (λ c. Ok (y, budget_of c, left source c)) (sym here)
 
-  -- a chain is a list
-  to_list : (l : Limits) (xs : List A) (front : List Lexeme) → Chain l xs front → Whole l xs front
-  to_list l xs front h =
-      let first = h.3.3 in
-      subst
-      (λ (ys : List A). Whole l ys front)
-      (sym (h.2 ∙ folded_pushed h.0 h.1 ∙ ap (λ (ys : List A). ys ++ h.1) first.1))
-      (h.3.0, h.3.1, h.3.2, first.2, each_of h.0 l h.1 h.3.1 h.3.4)
+-- one more where one of these kinds is next
+pub pushed_on : {A : Type 0} (kinds : List TokenKind) (part : List A → Runner A) {whole : Run (List A)} {counter end : ℕ} {value made : List A} {x : A} (source : Source) (before last : Cursor)
+    → Gathers kinds part pushed whole counter end value (budget_of before) (left source before) → counter < end → head_is (among kinds) (left source before) ≡ true
+    → part value (budget_of before) (left source before) ≡ Ok (x, budget_of last, left source last) → made ≡ value ++ x ∷ []
+    → Gathers kinds part pushed whole (counter + 1) end made (budget_of last) (left source last)
+pushed_on {A} kinds part {whole} {counter} {end} {value} {made} {x} source before last gathers lt is e same =
+    subst (λ (xs : List A). Gathers kinds part pushed whole (counter + 1) end xs (budget_of last) (left source last)) (sym same) (gathers_on {part = part} gathers lt is e)
 
-  -- a list is a chain
-  to_chain : (l : Limits) (xs : List A) (front : List Lexeme) → Whole l xs front → Chain l xs front
-  to_chain l [] front h = absurd h
-  to_chain l (x ∷ xs) front h = (x ∷ [], xs, sym (folded_pushed (x ∷ []) xs), (h.0, h.1, h.2, (x, refl, h.3), parts_of (x ∷ []) l xs h.1 h.4))
-
-  -- a part begins with a comma
-  begins : (value : List A) (l : Limits) (x : A) (front : List Lexeme) → Part value l x front → Starts (kind.Comma ∷ []) front
-  begins value l x front h = subst (λ (f : List Lexeme). Starts (kind.Comma ∷ []) f) (sym h.2) (starts_behind (kind.Comma ∷ []) h.0 h.1 (kinds_start kind.Comma [] h.0 h.3))
-
-  -- a list is read where no comma follows
-  pub listed_reaches : (ends : List TokenKind) → apart (kind.Comma ∷ []) ends ≡ true → Reaches At P c ends read → Reaches At (λ l xs. Listed (P l) xs) e (kind.Comma ∷ ends) (listed read)
-  listed_reaches ends no_comma reaches =
-      same_reaches At Chain Whole e (listed read) (kind.Comma ∷ ends) to_chain
-      (chain_reaches At Start e (made (λ x. x ∷ []) read) Part c (λ before. skip (kind.Comma ∷ []) read) (kind.Comma ∷ []) pushed joined ends
-      (made_reaches At P c e read (λ x. x ∷ []) single ends reaches)
-      (λ before. skip_reaches At P c read (kind.Comma ∷ []) ends reaches)
-      (λ value l x front at h. begins value l x front h)
-      no_comma)
-
-  -- a part takes a lexeme
-  filled : (value : List A) (l : Limits) (x : A) (front : List Lexeme) → Part value l x front → front ≡ [] → ⊥
-  filled value l x front h = starts_filled (kind.Comma ∷ []) front (begins value l x front h)
-
-  -- what is read is a list
-  pub listed_sounds : Sounds At P c read → Sounds At (λ l xs. Listed (P l) xs) e (listed read)
-  listed_sounds sounds =
-      same_sounds At Chain Whole e (listed read) to_list
-      (chain_sounds At Start e (made (λ x. x ∷ []) read) Part c (λ before. skip (kind.Comma ∷ []) read) (kind.Comma ∷ []) pushed joined
-      (made_sounds At P c e read (λ x. x ∷ []) single sounds)
-      (λ before. skip_sounds At P c read (kind.Comma ∷ []) refl sounds)
-      filled)
-
-  -- a fault in a part is the first
-  part_stuck : HasSome At P c → Sticks At (Completes P c) read → (value : List A) (l : Limits) (k : ℕ) (t : Lexeme) (tokens rest : List Lexeme) (stop : Stop) → At l
-      → among (kind.Comma ∷ []) t ≡ true → skip (kind.Comma ∷ []) read l k (t ∷ tokens) ≡ Err (stop, rest)
-      → IsStuck (OrNone (Completes (Part value) c)) (skip (kind.Comma ∷ []) read) l k (t ∷ tokens) stop rest
-  part_stuck some sticks value l k t tokens rest stop at comma h =
-      let s = skip_sticks At P c read (kind.Comma ∷ []) refl some sticks l k (t ∷ tokens) rest stop at h in
-      record {
-        front = s.front;
-        is = s.is;
-        goes = goes_in (Completes (Part value) c) (OrNone (Completes (Part value) c)) l (λ m j f wider has. inr has) k stop s.front rest s.goes;
-        again = s.again;
-      }
-
-  -- a fault in a list is the first
-  pub listed_sticks : HasSome At P c → Sounds At P c read → Sticks At (Completes P c) read → Sticks At (Completes (λ l xs. Listed (P l) xs) e) (listed read)
-  listed_sticks some sounds sticks =
-      same_sticks At Chain Whole e (listed read) to_list
-      (chain_sticks At Start e (made (λ x. x ∷ []) read) Part c (λ before. skip (kind.Comma ∷ []) read) (kind.Comma ∷ []) pushed joined
-      (made_sounds At P c e read (λ x. x ∷ []) single sounds)
-      (λ before. skip_sounds At P c read (kind.Comma ∷ []) refl sounds)
-      filled
-      (made_sticks At P c e read (λ x. x ∷ []) single sticks)
-      (part_stuck some sticks))
-
-  -- a list of one value stands where a value does
-  pub listed_some : HasSome At P c → HasSome At (λ l xs. Listed (P l) xs) e
-  listed_some some l at =
-      let h = some l at in
-      (h.0, h.1 ∷ [], (h.0, [], sym (append-nil h.0), h.2, refl), single h.1 ∙ h.3)
+-- what begins so is at fault
+pub pushed_halt : {A : Type 0} (kinds : List TokenKind) (part : List A → Runner A) {whole : Run (List A)} {counter end : ℕ} {value : List A} (source : Source) (before last : Cursor) (stop : Halt)
+    → Gathers kinds part pushed whole counter end value (budget_of before) (left source before) → counter < end → head_is (among kinds) (left source before) ≡ true
+    → Gives {A = A} source (Err stop) last (part value (budget_of before) (left source before)) → Gives {A = List A} source (Err stop) last whole
+pushed_halt kinds part source before last halt.Unexpected gathers lt is e = gathers_stop {part = part} gathers lt is e
+pushed_halt kinds part source before last halt.TooDeep gathers lt is e = gathers_stop {part = part} gathers lt is e
+pushed_halt kinds part source before last halt.NoMemory gathers lt is e = tt

@@ -1,70 +1,94 @@
--- What the answer of code is for a reader.
-use Rattle.std.specs.Prelude.{◌≡◌, ◌⊎◌, ◌==◌, ℕ, suc, true, false, List, length, ◌-◌, drop, Result, Ok, Err, ⊤}
+-- What the answer of code is for a run.
+use Rattle.std.specs.Prelude.{◌≡◌, ◌<◌, ◌≤◌, length, ℕ, suc, ◌-◌, Bool, true, false, if◌then◌else◌, List, [], ◌∷◌, drop, Result, Ok, Err, ⊤}
 use Rattle.hc_lex.specs.declared.token.TokenKind.{TokenKind}
-use Rattle.hc_parse.specs.declared.rest.Rest.{Rest}
-use Rattle.hc_parse.specs.declared.stop.Reason.{Reason}
-use Rattle.hc_parse.specs.declared.stop.Reason.TheVariants as reason
+use Rattle.hc_parse.specs.declared.cursor.Cursor.{Cursor}
+use Rattle.hc_parse.specs.declared.source.Source.{Source}
 use Rattle.hc_parse.specs.declared.stop.Stop.{Stop as Halt}
-use Rattle.hc_parse.specs.declared.stop.Stop.TheVariants.{At, NoMemory}
-use Rattle.hc_lex.specs.declared.token.Token.{Token}
+use Rattle.hc_parse.specs.declared.stop.Stop.TheVariants as halt
 use Rattle.hc_parse.specs.declared.fault.ParseFault.{ParseFault}
-use Rattle.hc_parse.specs.declared.fault.ParseFault.TheVariants as fault
-use Rattle.hc_parse.specs.Faults.{place_of}
-use Rattle.hc_parse.specs.ReadingStatements.{fault_at}
-use Rattle.hc_parse.specs.Kinds.{is, head_is}
-use Rattle.hc_parse.specs.Limits.{Limits}
-use Rattle.hc_parse.specs.Reads.{Stop, Unexpected, NoLevel, NoOperator, NoOperatorForNot, NoTable, Read, Reader}
-use Rattle.hc_parse.specs.Readers.{no_room}
-use Rattle.hc_parse.specs.Seen.{seen}
+use Rattle.hc_parse.specs.declared.fault.ParseFault.TheVariants.{Syntax, NoMemory}
+use Rattle.hc_parse.specs.declared.fault.ParseFault.TheVariants.{TooDeep as TooDeepAt}
+use Rattle.hc_grammar.specs.Grammar.{Grammar, Choice, Made}
+use Rattle.hc_grammar.specs.Kinds.{is, among, head_is}
+use Rattle.hc_grammar.specs.Runs.{Run, Runner, Unexpected, TooDeep}
+use Rattle.hc_grammar.specs.Statements.{Parts, Part, OneColumn, OneRule, has_no_rule, column, key_rule}
+use Rattle.hc_grammar.specs.Places.{run_of}
+use Rattle.hc_parse.specs.Seen.{left, budget_of}
 
-abbrev pub stop_of : Reason → Stop
-stop_of reason.Unexpected = Unexpected
-stop_of reason.NoLevel = NoLevel
-stop_of reason.NoOperator = NoOperator
-stop_of reason.NoOperatorForNot = NoOperatorForNot
-stop_of reason.NoTable = NoTable
+-- the answer is what the run gives, and the cursor is where it ends, unless memory ran out
+abbrev pub Gives : {A : Type 0} → Source → Result A Halt → Cursor → Run A → Type 0
+Gives source (Ok x) cursor run = run ≡ Ok (x, budget_of cursor, left source cursor)
+Gives source (Err halt.Unexpected) cursor run = run ≡ Err (Unexpected, left source cursor)
+Gives source (Err halt.TooDeep) cursor run = run ≡ Err (TooDeep, left source cursor)
+Gives source (Err halt.NoMemory) cursor run = ⊤
 
--- the reader stops so too, unless memory ran out
-abbrev pub Stops : {A : Type 0} → Halt → Read A → Type 0
-Stops NoMemory read = ⊤
-Stops (At why pieces) read = read ≡ Err (stop_of why, seen pieces.now)
+-- the run of a grammar from a cursor on, where so many levels may be opened
+abbrev pub within : {A : Type 0} → Source → ℕ → Grammar A → Cursor → Run A
+within source levels g cursor = run_of levels g (budget_of cursor) (left source cursor)
 
--- the answer is what the reader gives, unless memory ran out
-abbrev pub Gives : {A : Type 0} → Result (A × Rest) Halt → Read A → Type 0
-Gives (Ok x) read = read ≡ Ok (x.0, x.1.operators, seen x.1.pieces.now)
-Gives (Err halt) read = Stops halt read
+-- the same where no level is open
+abbrev pub from : {A : Type 0} → Source → Grammar A → Cursor → Run A
+from source g cursor = within source 100 g cursor
 
--- what a reader gives for what is left
-abbrev pub read_of : {A : Type 0} → Reader A → Limits → Rest → Read A
-read_of read l rest = read l rest.operators (seen rest.pieces.now)
+-- the cursor is after the first lexeme
+abbrev pub Advances : Source → Cursor → Cursor → Type 0
+Advances source before after = (budget_of after ≡ budget_of before) × (left source after ≡ drop 1 (left source before))
 
--- what is left behind the first lexeme
-abbrev pub IsBehindFirst : Rest → Rest → Type 0
-IsBehindFirst rest behind = (behind.operators ≡ rest.operators) × (seen behind.pieces.now ≡ drop 1 (seen rest.pieces.now))
+-- what a test for this kind tells of the first lexeme
+abbrev pub Tells : Source → TokenKind → Cursor → Bool → Type 0
+Tells source kind cursor found = (found ≡ head_is (is kind) (left source cursor)) × (found ≡ head_is (among (kind ∷ [])) (left source cursor))
+
+-- a lexeme of this kind is passed where it is next, and only there
+abbrev pub Accepts : Source → TokenKind → Cursor → Cursor → Bool → Type 0
+Accepts source kind before after true = Tells source kind before true × Advances source before after
+Accepts source kind before after false = Tells source kind before false × (budget_of after ≡ budget_of before) × (left source after ≡ left source before)
 
 -- a lexeme of this kind is passed, and another one is unexpected
-abbrev pub Skips : TokenKind → Rest → Result Rest Halt → Type 0
-Skips kind rest (Ok behind) = (head_is (is kind) (seen rest.pieces.now) ≡ true) × IsBehindFirst rest behind
-Skips kind rest (Err NoMemory) = ⊥
-Skips kind rest (Err (At why pieces)) =
-    (head_is (is kind) (seen rest.pieces.now) ≡ false) × (stop_of why ≡ Unexpected) × (seen pieces.now ≡ seen rest.pieces.now)
+abbrev pub Expects : Source → TokenKind → Cursor → Cursor → Result Unit Halt → Type 0
+Expects source kind before after (Ok u) = Accepts source kind before after true
+Expects source kind before after (Err halt.Unexpected) = Accepts source kind before after false
+Expects source kind before after (Err halt.TooDeep) = ⊥
+Expects source kind before after (Err halt.NoMemory) = ⊥
 
 -- the same of one that opens a level, for which there is room
-abbrev pub Opens : TokenKind → ℕ → Rest → Result Rest Halt → Type 0
-Opens kind levels rest (Ok behind) = (head_is (is kind) (seen rest.pieces.now) ≡ true) × ((levels == 0) ≡ false) × IsBehindFirst rest behind
-Opens kind levels rest (Err NoMemory) = ⊥
-Opens kind levels rest (Err (At why pieces)) =
-    (((head_is (is kind) (seen rest.pieces.now) ≡ false) × (stop_of why ≡ Unexpected))
-    ⊎ ((head_is (is kind) (seen rest.pieces.now) ≡ true) × ((levels == 0) ≡ true) × (stop_of why ≡ NoLevel)))
-    × (seen pieces.now ≡ seen rest.pieces.now)
+abbrev pub Opens : Source → TokenKind → ℕ → Cursor → Cursor → Result Unit Halt → Type 0
+Opens source kind levels before after (Ok u) = (levels ≡ suc (levels - 1)) × Accepts source kind before after true
+Opens source kind levels before after (Err halt.Unexpected) = Accepts source kind before after false
+Opens source kind levels before after (Err halt.TooDeep) =
+    (levels ≡ 0) × Tells source kind before true × (budget_of after ≡ budget_of before) × (left source after ≡ left source before)
+Opens source kind levels before after (Err halt.NoMemory) = ⊥
 
 -- an operator is taken of those that may still come
-abbrev pub Charges : Rest → Result Rest Halt → Type 0
-Charges rest (Ok less) = (rest.operators ≡ suc less.operators) × (seen less.pieces.now ≡ seen rest.pieces.now)
-Charges rest (Err NoMemory) = ⊥
-Charges rest (Err (At why pieces)) = (rest.operators ≡ 0) × (no_room (seen rest.pieces.now) ≡ (stop_of why, seen pieces.now))
+abbrev pub Charges : Cursor → Cursor → Result Unit Halt → Type 0
+Charges before after (Ok u) = (before.operators ≡ suc after.operators) × (after.tables ≡ before.tables) × (after.at ≡ before.at)
+Charges before after (Err halt.Unexpected) = ⊥
+Charges before after (Err halt.TooDeep) = (before.operators ≡ 0) × (after ≡ before)
+Charges before after (Err halt.NoMemory) = ⊥
 
--- the fault of a stop among the tokens of a text
-abbrev pub stop_fault : List ℕ → List Token → Halt → ParseFault
-stop_fault text tokens NoMemory = fault.NoMemory
-stop_fault text tokens (At why pieces) = fault_at (stop_of why) (place_of text (drop (length tokens - length pieces.now) tokens))
+-- a column or a rule after these parts
+abbrev pub part_after : Parts → Runner Part
+part_after parts budget tokens =
+    if has_no_rule parts
+    then run_of 100 (Choice (Made OneColumn column) (Made OneRule key_rule)) budget tokens
+    else run_of 100 (Made OneRule key_rule) budget tokens
+
+-- a table is taken of those that may still come
+abbrev pub ChargesTable : Cursor → Cursor → Result Unit Halt → Type 0
+ChargesTable before after (Ok u) = (before.tables ≡ suc after.tables) × (after.operators ≡ before.operators) × (after.at ≡ before.at)
+ChargesTable before after (Err halt.Unexpected) = (before.tables ≡ 0) × (after ≡ before)
+ChargesTable before after (Err halt.TooDeep) = ⊥
+ChargesTable before after (Err halt.NoMemory) = ⊥
+
+-- nothing may follow what is found
+abbrev pub AtEnd : {A : Type 0} → Source → Cursor → Result A Halt → Result A Halt → Type 0
+AtEnd source cursor (Ok x) (Ok y) = (y ≡ x) × (length source.tokens.now ≤ cursor.at)
+AtEnd source cursor (Ok x) (Err halt.Unexpected) = cursor.at < length source.tokens.now
+AtEnd source cursor (Ok x) (Err halt.TooDeep) = ⊥
+AtEnd source cursor (Ok x) (Err halt.NoMemory) = ⊥
+AtEnd source cursor (Err stop) found = found ≡ Err stop
+
+-- the fault that a stop at a place is
+abbrev pub fault_of : Halt → ℕ → ParseFault
+fault_of halt.Unexpected at = Syntax at
+fault_of halt.TooDeep at = TooDeepAt at
+fault_of halt.NoMemory at = NoMemory

@@ -6,7 +6,7 @@ use Rattle.hc_lex.specs.declared.token.Token.{Token}
 use Rattle.std.specs.Char.{is_ascii_hexdigit}
 use Rattle.hc_lex.specs.declared.token.TokenKind.{TokenKind}
 use Rattle.hc_lex.specs.declared.token.TokenKind.TheVariants as kind
-use Rattle.hc_parse.specs.Kinds.{kind_number}
+use Rattle.hc_grammar.specs.Kinds.{kind_number}
 
 -- what a quote closes: nothing may follow it
 abbrev pub closes : List ℕ → Option (List ℕ)

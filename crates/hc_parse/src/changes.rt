@@ -1,18 +1,14 @@
 // Statements that change rows.
-ghost use Rattle.std.specs.Prelude.{◌∷◌, []};
-ghost use Rattle.hc_lex.specs.declared.token.TokenKind.TheVariants as kind;
-ghost use Rattle.hc_parse.specs.Limits.{limits};
-ghost use Rattle.hc_parse.specs.Coded.{Gives, read_of};
-ghost use Rattle.hc_parse.specs.Readers.{maybe};
-ghost use Rattle.hc_parse.specs.ReadingStatements.{insert, update, delete, names};
+ghost use Rattle.hc_grammar.specs.Phrases.{maybe, names};
+ghost use Rattle.hc_grammar.specs.Statements.{delete, insert, update};
+ghost use Rattle.hc_parse.specs.Coded.{Gives, from};
 
+use crate::cursor::{Cursor, begins, expect, expect_word};
 use crate::expressions::read_expression;
-use crate::kinds::begins;
 use crate::list::{Part, read_list};
 use crate::names::read_name;
 use crate::parts::{read_clause, read_names};
-use crate::rest::Rest;
-use crate::skips::{skip, skip_word};
+use crate::source::Source;
 use crate::stop::Stop;
 use hc_ast::{Assign, Stmt};
 use hc_lex::{Keyword, TokenKind};
@@ -20,67 +16,74 @@ use hc_value::Str;
 use sqlite_items::Items;
 use std::alloc::Global;
 
-/// What stands behind INSERT INTO: a table, its columns where they are written, and rows.
-pub fn read_insert(alloc: Global, rest: Rest<'_>) -> Result<(Stmt, Rest<'_>), Stop<'_>>
-    ensures { Gives result (read_of insert limits rest.entry) }
+/// INSERT: a table, its columns where they are written, and rows.
+pub fn read_insert(alloc: Global, source: &Source<'_>, cursor: &mut Cursor) -> Result<Stmt, Stop>
+    ensures { Gives source.now result cursor.new (from source.now (insert) cursor.old) }
 {
-    let (table, rest) = read_name(alloc, rest)?;
-    let (columns, rest) = read_columns(alloc, rest)?;
-    let rest = skip_word(rest, Keyword::Values)?;
-    let (rows, rest) = read_list(alloc, rest)?;
-    let statement = Stmt::Insert {
+    expect_word(source, cursor, Keyword::Insert)?;
+    expect_word(source, cursor, Keyword::Into)?;
+    let table = read_name(alloc, source, cursor)?;
+    let columns = read_columns(alloc, source, cursor)?;
+    expect_word(source, cursor, Keyword::Values)?;
+    let rows = read_list(alloc, source, cursor)?;
+    Ok(Stmt::Insert {
         table,
         columns,
         rows,
-    };
-    Ok((statement, rest))
+    })
 }
 
 // Names in parentheses, where they are written.
-fn read_columns(alloc: Global, rest: Rest<'_>) -> Result<(Option<Items<Str>>, Rest<'_>), Stop<'_>>
-    ensures { Gives result (read_of (maybe (kind.LeftParen ∷ []) names) limits rest.entry) }
+fn read_columns(
+    alloc: Global,
+    source: &Source<'_>,
+    cursor: &mut Cursor,
+) -> Result<Option<Items<Str>>, Stop>
+    ensures { Gives source.now result cursor.new (from source.now (maybe names) cursor.old) }
 {
-    if !begins(rest.pieces, TokenKind::LeftParen) {
-        return Ok((None, rest));
+    if !begins(source, cursor, TokenKind::LeftParen) {
+        return Ok(None);
     }
-    let (names, rest) = read_names(alloc, rest)?;
-    Ok((Some(names), rest))
+    let names = read_names(alloc, source, cursor)?;
+    Ok(Some(names))
 }
 
-/// What stands behind UPDATE.
-pub fn read_update(alloc: Global, rest: Rest<'_>) -> Result<(Stmt, Rest<'_>), Stop<'_>>
-    ensures { Gives result (read_of update limits rest.entry) }
+/// UPDATE.
+pub fn read_update(alloc: Global, source: &Source<'_>, cursor: &mut Cursor) -> Result<Stmt, Stop>
+    ensures { Gives source.now result cursor.new (from source.now (update) cursor.old) }
 {
-    let (table, rest) = read_name(alloc, rest)?;
-    let rest = skip_word(rest, Keyword::Set)?;
-    let (sets, rest) = read_list(alloc, rest)?;
-    let (filter, rest) = read_clause(alloc, rest, Keyword::Where)?;
-    let statement = Stmt::Update {
+    expect_word(source, cursor, Keyword::Update)?;
+    let table = read_name(alloc, source, cursor)?;
+    expect_word(source, cursor, Keyword::Set)?;
+    let sets = read_list(alloc, source, cursor)?;
+    let filter = read_clause(alloc, source, cursor, Keyword::Where)?;
+    Ok(Stmt::Update {
         table,
         sets,
         filter,
-    };
-    Ok((statement, rest))
+    })
 }
 
 impl Part for Assign {
-    ghost use Rattle.hc_parse.specs.ReadingStatements.{assign};
+    ghost use Rattle.hc_grammar.specs.Statements.{assign};
 
-    ghost reader = { assign };
+    ghost grammar = { assign };
 
-    fn read(alloc: Global, rest: Rest<'_>) -> Result<(Assign, Rest<'_>), Stop<'_>> {
-        let (column, rest) = read_name(alloc, rest)?;
-        let rest = skip(rest, TokenKind::Equal)?;
-        let (value, rest) = read_expression(alloc, rest)?;
-        Ok((Assign { column, value }, rest))
+    fn read(alloc: Global, source: &Source<'_>, cursor: &mut Cursor) -> Result<Assign, Stop> {
+        let column = read_name(alloc, source, cursor)?;
+        expect(source, cursor, TokenKind::Equal)?;
+        let value = read_expression(alloc, source, cursor)?;
+        Ok(Assign { column, value })
     }
 }
 
-/// What stands behind DELETE FROM.
-pub fn read_delete(alloc: Global, rest: Rest<'_>) -> Result<(Stmt, Rest<'_>), Stop<'_>>
-    ensures { Gives result (read_of delete limits rest.entry) }
+/// DELETE.
+pub fn read_delete(alloc: Global, source: &Source<'_>, cursor: &mut Cursor) -> Result<Stmt, Stop>
+    ensures { Gives source.now result cursor.new (from source.now (delete) cursor.old) }
 {
-    let (table, rest) = read_name(alloc, rest)?;
-    let (filter, rest) = read_clause(alloc, rest, Keyword::Where)?;
-    Ok((Stmt::Delete { table, filter }, rest))
+    expect_word(source, cursor, Keyword::Delete)?;
+    expect_word(source, cursor, Keyword::From)?;
+    let table = read_name(alloc, source, cursor)?;
+    let filter = read_clause(alloc, source, cursor, Keyword::Where)?;
+    Ok(Stmt::Delete { table, filter })
 }

@@ -1,138 +1,147 @@
-// The columns of a new table, and the rules behind them.
-ghost use Rattle.std.specs.Prelude.{[]};
-ghost use Rattle.hc_parse.specs.Limits.{limits};
-ghost use Rattle.hc_parse.specs.Coded.{Gives, read_of};
-ghost use Rattle.hc_parse.specs.Readers.{made, one, chain, nothing, pushed};
-ghost use Rattle.hc_parse.specs.ReadingStatements.{column, column_rule, key_rule, key_words, part_behind, parts, with_part, class_of, rule_kinds};
+// The columns of a new table, and the rules after them.
+ghost use Rattle.std.specs.Prelude.{◌≡◌, ◌∷◌, [], true, false};
+ghost use Rattle.hc_grammar.specs.Grammar.{Chain, Choice, Nothing};
+ghost use Rattle.hc_grammar.specs.Phrases.{after_words, pushed};
+ghost use Rattle.hc_grammar.specs.Statements.{column, column_rule, column_type, key_rule, parts, with_part};
+ghost use Rattle.hc_grammar.specs.First.{first};
+ghost use Rattle.hc_grammar.specs.Kinds.{among, head_is};
+ghost use Rattle.hc_grammar.specs.Runs.{made};
+ghost use Rattle.hc_parse.specs.Coded.{Gives, from, part_after};
+ghost use Rattle.hc_parse.specs.Seen.{left, budget_of};
 
-use crate::kinds::{begins, begins_any};
+use crate::cursor::{Cursor, accept, accept_word, begins, begins_name, begins_word, expect_word};
+use crate::list::{finished, first_of};
 use crate::names::read_name;
-use crate::operands::begins_name;
 use crate::parts::read_names;
-use crate::rest::{Rest, behind_first};
-use crate::skips::{begins_word, skip_word};
-use crate::stop::{Stop, unexpected};
+use crate::source::Source;
+use crate::stop::Stop;
 use hc_ast::{ColumnDef, ColumnRule, KeyRule};
 use hc_lex::{Keyword, TokenKind};
 use hc_value::Class;
 use sqlite_items::Items;
 use std::alloc::Global;
 
-/// What a new table has: its columns, and the rules behind them.
+/// What a new table has: its columns, and the rules after them.
 pub type Parts = (Items<ColumnDef>, Items<KeyRule>);
 
 /// The columns of a table, and then its rules.
-pub fn read_parts(alloc: Global, rest: Rest<'_>) -> Result<(Parts, Rest<'_>), Stop<'_>>
-    ensures { Gives result (read_of parts limits rest.entry) }
+pub fn read_parts(alloc: Global, source: &Source<'_>, cursor: &mut Cursor) -> Result<Parts, Stop>
+    ensures { Gives source.now result cursor.new (from source.now parts cursor.old) }
 {
-    let mut columns = Items::new(alloc);
-    let (first, mut rest) = read_column(alloc, rest)?;
-    columns.push(first)?;
-    let mut parts = (columns, Items::new(alloc));
+    let first = read_column(alloc, source, cursor)?;
+    let columns = first_of(alloc, first, !begins(source, cursor, TokenKind::Comma))?;
+    let mut parts = (Items::from_vec(columns), Items::new(alloc));
     // Each comma is a token.
-    'turns: for _ in 0..rest.pieces.len() {
-        if !begins(rest.pieces, TokenKind::Comma) {
+    'parts: for _ in cursor.at..source.tokens.len() {
+        if !accept(source, cursor, TokenKind::Comma) {
             break;
         }
-        (parts, rest) = read_part(alloc, parts, behind_first(rest))?;
+        parts = read_part(alloc, source, cursor, parts)?;
     }
-    Ok((parts, rest))
+    Ok(parts)
 }
 
-// A column or a rule more. A column stands before all rules.
-fn read_part<'a>(alloc: Global, parts: Parts, rest: Rest<'a>) -> Result<(Parts, Rest<'a>), Stop<'a>>
-    ensures { Gives result (read_of (made (with_part parts) (part_behind parts.1)) limits rest.entry) }
+// A column or a rule more. All columns come before all rules.
+fn read_part(
+    alloc: Global,
+    source: &Source<'_>,
+    cursor: &mut Cursor,
+    parts: Parts,
+) -> Result<Parts, Stop>
+    ensures { Gives source.now result cursor.new (made (with_part parts) (part_after parts (budget_of cursor.old) (left source.now cursor.old))) }
 {
     let (mut columns, mut rules) = parts;
-    if rules.is_empty() && begins_name(rest) {
-        let (column, rest) = read_column(alloc, rest)?;
-        columns.push(column)?;
-        return Ok(((columns, rules), rest));
+    if rules.is_empty() && begins_name(source, cursor) {
+        columns.push(read_column(alloc, source, cursor)?)?;
+    } else {
+        rules.push(read_key_rule(alloc, source, cursor)?)?;
     }
-    let (rule, rest) = read_key_rule(alloc, rest)?;
-    rules.push(rule)?;
-    Ok(((columns, rules), rest))
+    Ok((columns, rules))
 }
 
-fn read_column(alloc: Global, rest: Rest<'_>) -> Result<(ColumnDef, Rest<'_>), Stop<'_>>
-    ensures { Gives result (read_of column limits rest.entry) }
+fn read_column(alloc: Global, source: &Source<'_>, cursor: &mut Cursor) -> Result<ColumnDef, Stop>
+    ensures { Gives source.now result cursor.new (from source.now (column) cursor.old) }
 {
-    let (name, rest) = read_name(alloc, rest)?;
-    let (class, rest) = read_class(rest)?;
-    let (rules, rest) = read_rules(alloc, rest)?;
-    Ok((ColumnDef { name, class, rules }, rest))
+    let name = read_name(alloc, source, cursor)?;
+    let class = read_class(source, cursor)?;
+    let rules = read_rules(alloc, source, cursor)?;
+    Ok(ColumnDef { name, class, rules })
 }
 
 // A column's type.
-fn read_class(rest: Rest<'_>) -> Result<(Class, Rest<'_>), Stop<'_>>
-    ensures { Gives result (read_of (one class_of) limits rest.entry) }
+fn read_class(source: &Source<'_>, cursor: &mut Cursor) -> Result<Class, Stop>
+    ensures { Gives source.now result cursor.new (from source.now (column_type) cursor.old) }
 {
-    if begins_word(rest, Keyword::Integer) {
-        return Ok((Class::Int, behind_first(rest)));
+    if accept_word(source, cursor, Keyword::Integer) {
+        return Ok(Class::Int);
     }
-    if begins_word(rest, Keyword::Text) {
-        return Ok((Class::Text, behind_first(rest)));
+    if accept_word(source, cursor, Keyword::Text) {
+        return Ok(Class::Text);
     }
-    if begins_word(rest, Keyword::Blob) {
-        return Ok((Class::Blob, behind_first(rest)));
-    }
-    unexpected(rest)
+    expect_word(source, cursor, Keyword::Blob)?;
+    Ok(Class::Blob)
 }
 
-/// What a column's rule begins with.
-const RULES: [TokenKind; 3] = [
-    TokenKind::Keyword(Keyword::Primary),
-    TokenKind::Keyword(Keyword::Not),
-    TokenKind::Keyword(Keyword::Unique),
-];
-
-fn read_rules(alloc: Global, rest: Rest<'_>) -> Result<(Items<ColumnRule>, Rest<'_>), Stop<'_>>
-    ensures { Gives result (read_of (chain (nothing []) rule_kinds (λ before. column_rule) pushed) limits rest.entry) }
+fn read_rules(
+    alloc: Global,
+    source: &Source<'_>,
+    cursor: &mut Cursor,
+) -> Result<Items<ColumnRule>, Stop>
+    ensures { Gives source.now result cursor.new (from source.now (Chain (Nothing []) column_rule pushed) cursor.old) }
 {
-    let mut rules = Items::new(alloc);
-    let mut rest = rest;
+    let mut rules = Vec::new(alloc);
     // Each rule is a token at least.
-    'turns: for _ in 0..rest.pieces.len() {
-        if !begins_any(rest.pieces, &RULES) {
+    'rules: for _ in cursor.at..source.tokens.len() {
+        if !begins_rule(source, cursor) {
             break;
         }
-        let (rule, behind) = read_rule(rest)?;
-        rules.push(rule)?;
-        rest = behind;
+        rules.push(read_rule(source, cursor)?)?;
     }
-    Ok((rules, rest))
+    Ok(finished(rules))
 }
 
-fn read_rule(rest: Rest<'_>) -> Result<(ColumnRule, Rest<'_>), Stop<'_>>
-    ensures { Gives result (read_of column_rule limits rest.entry) }
+// Whether a column's rule is next.
+#[tactic(auto, using(crate::proofs::Left::among_more, crate::proofs::Left::among_one))]
+fn begins_rule(source: &Source<'_>, cursor: &Cursor) -> bool
+    ensures { result ≡ head_is (among (first column_rule)) (left source.now cursor.now) }
 {
-    if begins_word(rest, Keyword::Primary) {
-        let rest = skip_word(behind_first(rest), Keyword::Key)?;
-        return Ok((ColumnRule::PrimaryKey, rest));
+    begins_word(source, cursor, Keyword::Primary)
+        || begins_word(source, cursor, Keyword::Not)
+        || begins_word(source, cursor, Keyword::Unique)
+}
+
+fn read_rule(source: &Source<'_>, cursor: &mut Cursor) -> Result<ColumnRule, Stop>
+    ensures { Gives source.now result cursor.new (from source.now (column_rule) cursor.old) }
+{
+    if accept_word(source, cursor, Keyword::Primary) {
+        expect_word(source, cursor, Keyword::Key)?;
+        return Ok(ColumnRule::PrimaryKey);
     }
-    if begins_word(rest, Keyword::Not) {
-        let rest = skip_word(behind_first(rest), Keyword::Null)?;
-        return Ok((ColumnRule::NotNull, rest));
+    if accept_word(source, cursor, Keyword::Not) {
+        expect_word(source, cursor, Keyword::Null)?;
+        return Ok(ColumnRule::NotNull);
     }
-    Ok((ColumnRule::Unique, skip_word(rest, Keyword::Unique)?))
+    expect_word(source, cursor, Keyword::Unique)?;
+    Ok(ColumnRule::Unique)
 }
 
 // A rule of the table, with the columns that it names.
-fn read_key_rule(alloc: Global, rest: Rest<'_>) -> Result<(KeyRule, Rest<'_>), Stop<'_>>
-    ensures { Gives result (read_of key_rule limits rest.entry) }
+fn read_key_rule(alloc: Global, source: &Source<'_>, cursor: &mut Cursor) -> Result<KeyRule, Stop>
+    ensures { Gives source.now result cursor.new (from source.now (key_rule) cursor.old) }
 {
-    let (primary, rest) = read_key_words(rest)?;
-    let (columns, rest) = read_names(alloc, rest)?;
-    Ok((KeyRule { primary, columns }, rest))
+    let primary = read_key_words(source, cursor)?;
+    let columns = read_names(alloc, source, cursor)?;
+    Ok(KeyRule { primary, columns })
 }
 
 // PRIMARY KEY or UNIQUE: whether it is the first.
-fn read_key_words(rest: Rest<'_>) -> Result<(bool, Rest<'_>), Stop<'_>>
-    ensures { Gives result (read_of key_words limits rest.entry) }
+fn read_key_words(source: &Source<'_>, cursor: &mut Cursor) -> Result<bool, Stop>
+    ensures { Gives source.now result cursor.new (from source.now (Choice (after_words (Keyword.Primary ∷ Keyword.Key ∷ []) (Nothing true)) (after_words (Keyword.Unique ∷ []) (Nothing false))) cursor.old) }
 {
-    if begins_word(rest, Keyword::Primary) {
-        let rest = skip_word(behind_first(rest), Keyword::Key)?;
-        return Ok((true, rest));
+    if accept_word(source, cursor, Keyword::Primary) {
+        expect_word(source, cursor, Keyword::Key)?;
+        return Ok(true);
     }
-    Ok((false, skip_word(rest, Keyword::Unique)?))
+    expect_word(source, cursor, Keyword::Unique)?;
+    Ok(false)
 }

@@ -1,306 +1,457 @@
-// Expressions: one function for each step, which calls itself for the operands.
-ghost use Rattle.std.specs.Prelude.{◌≡◌, ◌<◌, true};
-ghost use Rattle.hc_parse.specs.Limits.{limits};
-ghost use Rattle.hc_parse.specs.Readers.{listed, lower};
-ghost use Rattle.hc_parse.specs.Coded.{Gives, read_of};
-ghost use Rattle.hc_parse.specs.Expressions.{Whole};
-ghost use Rattle.hc_parse.specs.ReadingExpressions.{expression};
-ghost use Rattle.hc_parse.specs.Levels.{limits_of};
-ghost use Rattle.hc_parse.specs.Steps.{IsChain, is_inner, place_of, within_of, level_reader, chain_reader, step_reader, word_reader, test_reader, between_reader, negated_reader, unary_reader, primary_reader, named_reader, list_reader};
+// Expressions, by precedence climbing: an operand costs one call, however many precedences there are.
+ghost use Rattle.std.specs.Prelude.{◌≡◌, ◌<◌, ◌≤◌, ◌∷◌, [], ◌^◌, ◌-◌, length, negsuc, true};
+ghost use Rattle.hc_ast.specs.declared.expression.Expr.TheVariants as expr;
+ghost use Rattle.hc_grammar.specs.Climbing.{begins_negation, climb, negation, next_precedence, operators_from, tail_at};
+ghost use Rattle.hc_grammar.specs.Expressions.{after_name, arguments, expression, primary, test_tail, unary};
+ghost use Rattle.hc_grammar.specs.Grammar.{Both, Choice, Level, Made, Negation, Nothing, Signed, Whole, Within, Word};
+ghost use Rattle.hc_grammar.specs.Kinds.{among, head_is};
+ghost use Rattle.hc_grammar.specs.Marks.{Plain};
+ghost use Rattle.hc_grammar.specs.Phrases.{before, listed, name as name_grammar};
+ghost use Rattle.hc_grammar.specs.Terminals.{Literal, kinds_of};
+ghost use Rattle.hc_parse.specs.Coded.{Gives, from, within};
+ghost use Rattle.hc_parse.specs.Seen.{budget_of, left};
+ghost use Rattle.hc_parse.specs.Tails.{answer_seen, word_tail_after};
 
-use crate::kinds::{begins, begins_any};
-use crate::levels::{Level, first_kinds, tighter};
-use crate::names::read_name;
-use crate::operands::{
-    begins_least, begins_literal, begins_name, begins_sign, between, binary, call, column_of, like,
-    negation, one_of, read_literal, read_operator, signed,
+use crate::cursor::{
+    Cursor, accept, accept_word, advance, begins, begins_name, begins_word, charge, expect,
+    expect_word, open,
 };
-use crate::rest::{Rest, behind_first};
-use crate::skips::{begins_word, charge, open, skip, skip_if, skip_word};
+use crate::list::{finished, first_of};
+use crate::names::{read_literal, read_name};
+use crate::precedence::{
+    CONCATENATION, CONJUNCTION, DISJUNCTION, NEGATION, ORDER, is_between, next_precedence,
+    next_sign,
+};
+use crate::source::Source;
 use crate::stop::Stop;
-use hc_ast::{BinaryOp, Expr};
+use crate::tails::{Tail, applied, is_or_is_not};
+use hc_ast::Expr;
 use hc_lex::{Keyword, TokenKind};
-use hc_value::Value;
-use sqlite_items::Items;
+use hc_value::{Str, Value};
+use sqlite_items::{Boxed, Items};
 use std::alloc::Global;
 
 /// How many levels may be open at once.
 const LEVELS: u32 = 100;
 
 /// How many operators with two sides an expression may have.
-const OPERATORS: u32 = 1000;
+pub const OPERATORS: u32 = 1000;
 
 /// An expression that is part of no other.
-#[tactic(auto, using(crate::proofs::LevelLemmas::nested_is))]
-pub fn read_expression(alloc: Global, rest: Rest<'_>) -> Result<(Expr, Rest<'_>), Stop<'_>>
-    ensures { Gives result (read_of expression limits rest.entry) }
+pub fn read_expression(
+    alloc: Global,
+    source: &Source<'_>,
+    cursor: &mut Cursor,
+) -> Result<Expr, Stop>
+    ensures { Gives source.now result cursor.new (from source.now expression cursor.old) }
 {
-    let all = Rest {
-        operators: OPERATORS,
-        pieces: rest.pieces,
-    };
-    let (value, behind) = read_level(alloc, Level::Disjunction, LEVELS, all)?;
-    Ok((
-        value,
-        Rest {
-            operators: rest.operators,
-            pieces: behind.pieces,
-        },
-    ))
+    cursor.operators = OPERATORS;
+    read_within(alloc, source, cursor, LEVELS)
 }
 
+// An expression, where so many levels may be opened.
 #[cycle(expression)]
-#[tactic(auto, using(crate::proofs::LevelLemmas::level_is_chain, crate::proofs::LevelLemmas::level_is_negated, crate::proofs::LevelLemmas::level_is_unary))]
-fn read_level(
+#[inline(always)]
+fn read_within(
     alloc: Global,
-    level: Level,
+    source: &Source<'_>,
+    cursor: &mut Cursor,
     levels: u32,
-    rest: Rest<'_>,
-) -> Result<(Expr, Rest<'_>), Stop<'_>>
-    ensures { Gives result (read_of (level_reader levels level) (limits_of levels) rest.entry) }
+) -> Result<Expr, Stop>
+    ensures { Gives source.now result cursor.new (within source.now levels (Within Whole) cursor.old) }
 {
-    match level {
-        Level::Negated => read_negated(alloc, levels, rest),
-        Level::Unary => read_unary(alloc, levels, rest),
-        _ => read_chain(alloc, level, levels, rest),
+    read_operators(alloc, source, cursor, DISJUNCTION, levels)
+}
+
+// Operands with operators between them that bind so tightly or more.
+#[cycle(expression)]
+#[inline(never)]
+fn read_operators(
+    alloc: Global,
+    source: &Source<'_>,
+    cursor: &mut Cursor,
+    least: u8,
+    levels: u32,
+) -> Result<Expr, Stop>
+    requires least { 0 < least }
+    requires most { least < 10 }
+    ensures { Gives source.now result cursor.new (within source.now levels (operators_from least) cursor.old) }
+{
+    if begins_negation(source, cursor, least) {
+        let value = read_boxed(alloc, source, cursor, least, levels)?;
+        return Ok(value.into_inner());
     }
+    let first = read_signed(alloc, source, cursor, levels)?;
+    // An operand alone needs no box.
+    if !is_between(least, next_precedence(source, cursor), CONCATENATION) {
+        return Ok(first);
+    }
+    let first = Boxed::new(alloc, first)?;
+    let value = read_tails(alloc, source, cursor, first, least, CONCATENATION, levels)?;
+    Ok(value.into_inner())
 }
 
-// Operands with operators of one level between them, grouped to the left.
+// The same in a box.
 #[cycle(expression)]
-fn read_chain(
+#[inline(never)]
+fn read_boxed(
     alloc: Global,
-    level: Level,
+    source: &Source<'_>,
+    cursor: &mut Cursor,
+    least: u8,
     levels: u32,
-    rest: Rest<'_>,
-) -> Result<(Expr, Rest<'_>), Stop<'_>>
-    requires { IsChain level }
-    ensures { Gives result (read_of (chain_reader levels level) (limits_of levels) rest.entry) }
+) -> Result<Boxed<Expr>, Stop>
+    requires least { 0 < least }
+    requires most { least < 10 }
+    ensures { Gives source.now result cursor.new (within source.now levels (operators_from least) cursor.old) }
 {
-    let (mut left, mut rest) = read_level(alloc, tighter(level), levels, rest)?;
-    // Each operator is a token at least.
-    'operators: for _ in 0..rest.pieces.len() {
-        if !begins_any(rest.pieces, first_kinds(level)) {
+    if begins_negation(source, cursor, least) {
+        let first = read_negated(alloc, source, cursor, levels)?;
+        return read_tails(alloc, source, cursor, first, least, CONJUNCTION, levels);
+    }
+    let first = read_signed(alloc, source, cursor, levels)?;
+    let first = Boxed::new(alloc, first)?;
+    read_tails(alloc, source, cursor, first, least, CONCATENATION, levels)
+}
+
+// Whether NOT is next where an operand may begin with it.
+#[inline(always)]
+fn begins_negation(source: &Source<'_>, cursor: &Cursor, least: u8) -> bool
+    ensures { result ≡ begins_negation least (left source.now cursor.now) }
+{
+    least <= NEGATION && begins_word(source, cursor, Keyword::Not)
+}
+
+// The operators with their right operands that follow a left operand. What binds tighter than the one before cannot
+// follow it.
+#[cycle(expression)]
+#[inline(never)]
+fn read_tails(
+    alloc: Global,
+    source: &Source<'_>,
+    cursor: &mut Cursor,
+    first: Boxed<Expr>,
+    least: u8,
+    most: u8,
+    levels: u32,
+) -> Result<Boxed<Expr>, Stop>
+    requires { 0 < least }
+    ensures { Gives source.now result cursor.new (climb levels least (length (left source.now cursor.old)) most first (budget_of cursor.old) (left source.now cursor.old)) }
+{
+    let mut left = first;
+    let mut most = most;
+    // Each operator is a token.
+    'operators: for _ in cursor.at..source.tokens.len() {
+        let precedence = next_precedence(source, cursor);
+        if !is_between(least, precedence, most) {
             break;
         }
-        let less = charge(rest)?;
-        let (value, behind) = read_step(alloc, left, level, levels, less)?;
-        left = value;
-        rest = behind;
+        let tail = read_tail(alloc, source, cursor, precedence, levels)?;
+        left = applied(alloc, left, tail)?;
+        most = precedence;
     }
-    Ok((left, rest))
+    Ok(left)
 }
 
-// An operator and what belongs to it, behind a left operand.
+// NOT and its operand.
 #[cycle(expression)]
-fn read_step<'a>(
+#[inline(never)]
+fn read_negated(
     alloc: Global,
-    left: Expr,
-    level: Level,
+    source: &Source<'_>,
+    cursor: &mut Cursor,
     levels: u32,
-    rest: Rest<'a>,
-) -> Result<(Expr, Rest<'a>), Stop<'a>>
-    requires { IsChain level }
-    ensures { Gives result (read_of (step_reader levels level left) (limits_of levels) rest.entry) }
+) -> Result<Boxed<Expr>, Stop>
+    ensures { Gives source.now result cursor.new (within source.now levels negation cursor.old) }
 {
-    if level == Level::Equality && !begins_sign(level, rest) {
-        return read_word_step(alloc, left, levels, rest);
-    }
-    let (op, rest) = read_operator(level, rest)?;
-    let (right, rest) = read_level(alloc, tighter(level), levels, rest)?;
-    Ok((binary(alloc, op, left, right)?, rest))
+    open(source, cursor, levels, TokenKind::Keyword(Keyword::Not))?;
+    let operand = read_negation(alloc, source, cursor, levels - 1)?;
+    Ok(Boxed::new(alloc, Expr::Not(operand))?)
 }
 
-// IS, or a test with NOT before it or without.
+// What NOT stands before.
 #[cycle(expression)]
-fn read_word_step<'a>(
+#[inline(always)]
+fn read_negation(
     alloc: Global,
-    left: Expr,
+    source: &Source<'_>,
+    cursor: &mut Cursor,
     levels: u32,
-    rest: Rest<'a>,
-) -> Result<(Expr, Rest<'a>), Stop<'a>>
-    ensures { Gives result (read_of (word_reader levels left) (limits_of levels) rest.entry) }
+) -> Result<Boxed<Expr>, Stop>
+    ensures { Gives source.now result cursor.new (within source.now levels (Within Negation) cursor.old) }
 {
-    if !begins_word(rest, Keyword::Is) {
-        if begins_word(rest, Keyword::Not) {
-            return read_test(alloc, left, true, levels, behind_first(rest));
-        }
-        return read_test(alloc, left, false, levels, rest);
-    }
-    let rest = behind_first(rest);
-    let op = if begins_word(rest, Keyword::Not) {
-        BinaryOp::IsNot
-    } else {
-        BinaryOp::Is
+    read_boxed(alloc, source, cursor, NEGATION, levels)
+}
+
+// An operator of this precedence with the operands on its right.
+#[cycle(expression)]
+fn read_tail(
+    alloc: Global,
+    source: &Source<'_>,
+    cursor: &mut Cursor,
+    precedence: u8,
+    levels: u32,
+) -> Result<Tail, Stop>
+    requires next { precedence ≡ next_precedence (left source.now cursor.old) }
+    requires some { 0 < precedence }
+    requires small { precedence < 9 }
+    ensures { Gives source.now (answer_seen result) cursor.new (within source.now levels (tail_at precedence) cursor.old) }
+{
+    charge(cursor)?;
+    let Some(op) = next_sign(source, cursor) else {
+        return read_word_tail(alloc, source, cursor, levels);
     };
-    let (right, rest) = read_level(alloc, Level::Order, levels, skip_if(rest, Keyword::Not))?;
-    Ok((binary(alloc, op, left, right)?, rest))
+    advance(source, cursor);
+    let right = read_boxed(alloc, source, cursor, precedence + 1, levels)?;
+    Ok(Tail::Binary(op, right))
+}
+
+// IS, or a test with NOT before it or without, of which the operator is taken already.
+#[cycle(expression)]
+#[inline(never)]
+fn read_word_tail(
+    alloc: Global,
+    source: &Source<'_>,
+    cursor: &mut Cursor,
+    levels: u32,
+) -> Result<Tail, Stop>
+    ensures { Gives source.now (answer_seen result) cursor.new (within source.now levels (word_tail_after (operators_from 5)) cursor.old) }
+{
+    if accept_word(source, cursor, Keyword::Is) {
+        let is_not = accept_word(source, cursor, Keyword::Not);
+        let right = read_boxed(alloc, source, cursor, ORDER, levels)?;
+        return Ok(Tail::Binary(is_or_is_not(is_not), right));
+    }
+    if accept_word(source, cursor, Keyword::Not) {
+        return read_test(alloc, source, cursor, true, levels);
+    }
+    read_test(alloc, source, cursor, false, levels)
 }
 
 // IN, LIKE or BETWEEN.
 #[cycle(expression)]
-fn read_test<'a>(
+#[inline(never)]
+fn read_test(
     alloc: Global,
-    left: Expr,
+    source: &Source<'_>,
+    cursor: &mut Cursor,
     not: bool,
     levels: u32,
-    rest: Rest<'a>,
-) -> Result<(Expr, Rest<'a>), Stop<'a>>
-    ensures { Gives result (read_of (test_reader levels left not) (limits_of levels) rest.entry) }
+) -> Result<Tail, Stop>
+    ensures { Gives source.now (answer_seen result) cursor.new (within source.now levels (test_tail Plain not (operators_from 5)) cursor.old) }
 {
-    if begins_word(rest, Keyword::In) {
-        let rest = open(levels, behind_first(rest), TokenKind::LeftParen)?;
-        let (list, rest) = read_list(alloc, levels, rest)?;
-        return Ok((one_of(alloc, not, left, list)?, rest));
+    if accept_word(source, cursor, Keyword::In) {
+        let list = read_arguments(alloc, source, cursor, levels)?;
+        return Ok(Tail::OneOf(not, list));
     }
-    if begins_word(rest, Keyword::Like) {
-        let (pattern, rest) = read_level(alloc, Level::Order, levels, behind_first(rest))?;
-        return Ok((like(alloc, not, left, pattern)?, rest));
+    if accept_word(source, cursor, Keyword::Like) {
+        let pattern = read_boxed(alloc, source, cursor, ORDER, levels)?;
+        return Ok(Tail::Like(not, pattern));
     }
-    read_between(alloc, left, not, levels, rest)
-}
-
-#[cycle(expression)]
-fn read_between<'a>(
-    alloc: Global,
-    left: Expr,
-    not: bool,
-    levels: u32,
-    rest: Rest<'a>,
-) -> Result<(Expr, Rest<'a>), Stop<'a>>
-    ensures { Gives result (read_of (between_reader levels left not) (limits_of levels) rest.entry) }
-{
-    let rest = skip_word(rest, Keyword::Between)?;
-    let (low, rest) = read_level(alloc, Level::Order, levels, rest)?;
-    let rest = skip_word(rest, Keyword::And)?;
-    let (high, rest) = read_level(alloc, Level::Order, levels, rest)?;
-    Ok((between(alloc, not, left, low, high)?, rest))
-}
-
-// NOT and its operand, or an operand without it.
-#[cycle(expression)]
-fn read_negated(alloc: Global, levels: u32, rest: Rest<'_>) -> Result<(Expr, Rest<'_>), Stop<'_>>
-    ensures { Gives result (read_of (negated_reader levels) (limits_of levels) rest.entry) }
-{
-    let kind = TokenKind::Keyword(Keyword::Not);
-    if !begins(rest.pieces, kind) {
-        return read_level(alloc, Level::Equality, levels, rest);
-    }
-    let rest = open(levels, rest, kind)?;
-    let (operand, rest) = read_within(alloc, Level::Negated, levels, rest)?;
-    Ok((negation(alloc, operand)?, rest))
+    expect_word(source, cursor, Keyword::Between)?;
+    let low = read_boxed(alloc, source, cursor, ORDER, levels)?;
+    expect_word(source, cursor, Keyword::And)?;
+    let high = read_boxed(alloc, source, cursor, ORDER, levels)?;
+    Ok(Tail::Between(not, low, high))
 }
 
 // A sign and its operand, or an operand without one.
 #[cycle(expression)]
-fn read_unary(alloc: Global, levels: u32, rest: Rest<'_>) -> Result<(Expr, Rest<'_>), Stop<'_>>
-    ensures { Gives result (read_of (unary_reader levels) (limits_of levels) rest.entry) }
+fn read_signed(
+    alloc: Global,
+    source: &Source<'_>,
+    cursor: &mut Cursor,
+    levels: u32,
+) -> Result<Expr, Stop>
+    ensures { Gives source.now result cursor.new (within source.now levels unary cursor.old) }
 {
-    let is_minus = begins(rest.pieces, TokenKind::Minus);
-    if !is_minus && !begins(rest.pieces, TokenKind::Plus) {
-        return read_primary(alloc, levels, rest);
+    if begins(source, cursor, TokenKind::Minus) {
+        return read_minus(alloc, source, cursor, levels);
     }
-    let kind = if is_minus {
-        TokenKind::Minus
-    } else {
-        TokenKind::Plus
-    };
-    let rest = open(levels, rest, kind)?;
-    if is_minus && begins_least(rest) {
-        return Ok((Expr::Value(Value::Int(i64::MIN)), behind_first(rest)));
+    if begins(source, cursor, TokenKind::Plus) {
+        return read_plus(alloc, source, cursor, levels);
     }
-    let (operand, rest) = read_within(alloc, Level::Unary, levels, rest)?;
-    Ok((signed(alloc, is_minus, operand)?, rest))
+    read_primary(alloc, source, cursor, levels)
+}
+
+// What a sign stands before.
+#[cycle(expression)]
+#[inline(always)]
+fn read_operand(
+    alloc: Global,
+    source: &Source<'_>,
+    cursor: &mut Cursor,
+    levels: u32,
+) -> Result<Boxed<Expr>, Stop>
+    ensures { Gives source.now result cursor.new (within source.now levels (Within Signed) cursor.old) }
+{
+    let operand = read_signed(alloc, source, cursor, levels)?;
+    Ok(Boxed::new(alloc, operand)?)
+}
+
+#[cycle(expression)]
+#[inline(never)]
+fn read_minus(
+    alloc: Global,
+    source: &Source<'_>,
+    cursor: &mut Cursor,
+    levels: u32,
+) -> Result<Expr, Stop>
+    ensures { Gives source.now result cursor.new (within source.now levels
+        (Level TokenKind.Minus (Choice (Word Plain (TokenKind.Integer (2 ^ 63)) (Nothing (expr.Value (Value.Int (negsuc (2 ^ 63 - 1)))))) (Made expr.Minus (Within Signed)))) cursor.old) }
+{
+    open(source, cursor, levels, TokenKind::Minus)?;
+    if accept(source, cursor, TokenKind::Integer(1 << 63)) {
+        return Ok(Expr::Value(Value::Int(i64::MIN)));
+    }
+    let operand = read_operand(alloc, source, cursor, levels - 1)?;
+    Ok(Expr::Minus(operand))
+}
+
+#[cycle(expression)]
+#[inline(never)]
+fn read_plus(
+    alloc: Global,
+    source: &Source<'_>,
+    cursor: &mut Cursor,
+    levels: u32,
+) -> Result<Expr, Stop>
+    ensures { Gives source.now result cursor.new (within source.now levels (Level TokenKind.Plus (Made expr.Plus (Within Signed))) cursor.old) }
+{
+    open(source, cursor, levels, TokenKind::Plus)?;
+    let operand = read_operand(alloc, source, cursor, levels - 1)?;
+    Ok(Expr::Plus(operand))
 }
 
 // A literal, what a name begins, or an expression in parentheses.
 #[cycle(expression)]
-fn read_primary(alloc: Global, levels: u32, rest: Rest<'_>) -> Result<(Expr, Rest<'_>), Stop<'_>>
-    ensures { Gives result (read_of (primary_reader levels) (limits_of levels) rest.entry) }
+fn read_primary(
+    alloc: Global,
+    source: &Source<'_>,
+    cursor: &mut Cursor,
+    levels: u32,
+) -> Result<Expr, Stop>
+    ensures { Gives source.now result cursor.new (within source.now levels primary cursor.old) }
 {
-    if begins_literal(rest) {
-        return read_literal(alloc, rest);
+    if begins_literal(source, cursor) {
+        return read_literal(alloc, source, cursor);
     }
-    if begins_name(rest) {
-        return read_named(alloc, levels, rest);
+    if begins_name(source, cursor) {
+        return read_named(alloc, source, cursor, levels);
     }
-    let rest = open(levels, rest, TokenKind::LeftParen)?;
-    let (value, rest) = read_within(alloc, Level::Disjunction, levels, rest)?;
-    Ok((value, skip(rest, TokenKind::RightParen)?))
+    read_parentheses(alloc, source, cursor, levels)
+}
+
+// Whether a literal of one token is next.
+#[inline(always)]
+#[tactic(auto, using(crate::proofs::Left::among_more, crate::proofs::Left::among_one))]
+fn begins_literal(source: &Source<'_>, cursor: &Cursor) -> bool
+    ensures { result ≡ head_is (among (kinds_of Literal)) (left source.now cursor.now) }
+{
+    begins_word(source, cursor, Keyword::Null)
+        || begins(source, cursor, TokenKind::Text)
+        || begins(source, cursor, TokenKind::Blob)
+        || begins(source, cursor, TokenKind::Integer(0))
+}
+
+#[cycle(expression)]
+#[inline(never)]
+fn read_parentheses(
+    alloc: Global,
+    source: &Source<'_>,
+    cursor: &mut Cursor,
+    levels: u32,
+) -> Result<Expr, Stop>
+    ensures { Gives source.now result cursor.new (within source.now levels (Level TokenKind.LeftParen (before (Within Whole) TokenKind.RightParen)) cursor.old) }
+{
+    open(source, cursor, levels, TokenKind::LeftParen)?;
+    let value = read_within(alloc, source, cursor, levels - 1)?;
+    expect(source, cursor, TokenKind::RightParen)?;
+    Ok(value)
 }
 
 // A column, with its table's name or without, or a call.
 #[cycle(expression)]
-fn read_named(alloc: Global, levels: u32, rest: Rest<'_>) -> Result<(Expr, Rest<'_>), Stop<'_>>
-    ensures { Gives result (read_of (named_reader levels) (limits_of levels) rest.entry) }
-{
-    let (name, rest) = read_name(alloc, rest)?;
-    if begins(rest.pieces, TokenKind::Dot) {
-        let (column, rest) = read_name(alloc, behind_first(rest))?;
-        return Ok((column_of(Some(name), column), rest));
-    }
-    if !begins(rest.pieces, TokenKind::LeftParen) {
-        return Ok((column_of(None, name), rest));
-    }
-    let rest = open(levels, rest, TokenKind::LeftParen)?;
-    if begins(rest.pieces, TokenKind::Star) {
-        let rest = skip(behind_first(rest), TokenKind::RightParen)?;
-        return Ok((Expr::CallAll { name }, rest));
-    }
-    let (args, rest) = read_list(alloc, levels, rest)?;
-    Ok((call(name, args), rest))
-}
-
-// What stands within a level that is open, where so many could be opened.
-#[cycle(expression)]
-#[tactic(auto, using(crate::proofs::LevelLemmas::within_is))]
-fn read_within(
+#[inline(never)]
+fn read_named(
     alloc: Global,
-    level: Level,
+    source: &Source<'_>,
+    cursor: &mut Cursor,
     levels: u32,
-    rest: Rest<'_>,
-) -> Result<(Expr, Rest<'_>), Stop<'_>>
-    requires some { 0 < levels }
-    requires inner { is_inner level ≡ true }
-    ensures { Gives result (read_of (within_of levels (place_of level)) (lower (limits_of levels)) rest.entry) }
+) -> Result<Expr, Stop>
+    ensures { Gives source.now result cursor.new (within source.now levels (Both (λ x make. make x) name_grammar after_name) cursor.old) }
 {
-    read_level(alloc, level, levels - 1, rest)
+    let name = read_name(alloc, source, cursor)?;
+    if accept(source, cursor, TokenKind::Dot) {
+        let column = read_name(alloc, source, cursor)?;
+        let table = Some(Boxed::new(alloc, name)?);
+        return Ok(Expr::Name { table, column });
+    }
+    if !begins(source, cursor, TokenKind::LeftParen) {
+        return Ok(Expr::Name {
+            table: None,
+            column: name,
+        });
+    }
+    open(source, cursor, levels, TokenKind::LeftParen)?;
+    if accept(source, cursor, TokenKind::Star) {
+        expect(source, cursor, TokenKind::RightParen)?;
+        return Ok(Expr::CallAll { name });
+    }
+    let args = read_values(alloc, source, cursor, levels - 1)?;
+    let name = Boxed::new(alloc, name)?;
+    Ok(Expr::Call { name, args })
 }
 
-// Expressions within a level, with commas between them, and the parenthesis behind them.
+// Expressions in parentheses, with commas between them.
 #[cycle(expression)]
-fn read_list(
+#[inline(never)]
+fn read_arguments(
     alloc: Global,
+    source: &Source<'_>,
+    cursor: &mut Cursor,
     levels: u32,
-    rest: Rest<'_>,
-) -> Result<(Items<Expr>, Rest<'_>), Stop<'_>>
-    requires { 0 < levels }
-    ensures { Gives result (read_of (list_reader levels) (lower (limits_of levels)) rest.entry) }
+) -> Result<Items<Expr>, Stop>
+    ensures { Gives source.now result cursor.new (within source.now levels arguments cursor.old) }
 {
-    let (list, rest) = read_values(alloc, levels, rest)?;
-    Ok((list, skip(rest, TokenKind::RightParen)?))
+    open(source, cursor, levels, TokenKind::LeftParen)?;
+    read_values(alloc, source, cursor, levels - 1)
 }
 
+// Expressions with commas between them, and the parenthesis after them.
 #[cycle(expression)]
+#[inline(never)]
 fn read_values(
     alloc: Global,
+    source: &Source<'_>,
+    cursor: &mut Cursor,
     levels: u32,
-    rest: Rest<'_>,
-) -> Result<(Items<Expr>, Rest<'_>), Stop<'_>>
-    requires { 0 < levels }
-    ensures { Gives result (read_of (listed (within_of levels Whole)) (lower (limits_of levels)) rest.entry) }
+) -> Result<Items<Expr>, Stop>
+    ensures { Gives source.now result cursor.new (within source.now levels (before (listed (Within Whole)) TokenKind.RightParen) cursor.old) }
 {
-    let mut list = Items::new(alloc);
-    let (first, mut rest) = read_within(alloc, Level::Disjunction, levels, rest)?;
-    list.push(first)?;
+    let list = read_commas(alloc, source, cursor, levels)?;
+    expect(source, cursor, TokenKind::RightParen)?;
+    Ok(list)
+}
+
+#[cycle(expression)]
+#[inline(never)]
+fn read_commas(
+    alloc: Global,
+    source: &Source<'_>,
+    cursor: &mut Cursor,
+    levels: u32,
+) -> Result<Items<Expr>, Stop>
+    ensures { Gives source.now result cursor.new (within source.now levels (listed (Within Whole)) cursor.old) }
+{
+    let first = read_within(alloc, source, cursor, levels)?;
+    let mut list = first_of(alloc, first, !begins(source, cursor, TokenKind::Comma))?;
     // Each comma is a token.
-    'items: for _ in 0..rest.pieces.len() {
-        if !begins(rest.pieces, TokenKind::Comma) {
+    'items: for _ in cursor.at..source.tokens.len() {
+        if !accept(source, cursor, TokenKind::Comma) {
             break;
         }
-        let (value, behind) = read_within(alloc, Level::Disjunction, levels, behind_first(rest))?;
-        list.push(value)?;
-        rest = behind;
+        list.push(read_within(alloc, source, cursor, levels)?)?;
     }
-    Ok((list, rest))
+    Ok(finished(list))
 }

@@ -1,65 +1,59 @@
 // What a query asks for.
 ghost use Rattle.std.specs.Prelude.{◌≡◌};
 ghost use Rattle.std.specs.List.{list_any};
-ghost use Rattle.hc_parse.specs.Limits.{limits};
-ghost use Rattle.hc_parse.specs.Coded.{Gives, read_of};
-ghost use Rattle.hc_parse.specs.Seen.{seen};
-ghost use Rattle.hc_parse.specs.ReadingQueries.{item, one_item, all_of, begins_all_of, wants_from};
+ghost use Rattle.hc_grammar.specs.Grammar.{Asked, Within};
+ghost use Rattle.hc_grammar.specs.Queries.{all_of, wants_from};
+ghost use Rattle.hc_grammar.specs.Places.{begins_all_of};
+ghost use Rattle.hc_parse.specs.Seen.{left};
+ghost use Rattle.hc_parse.specs.Coded.{Gives, from};
 
-use crate::expressions::read_expression;
-use crate::kinds::{begins, is_among, is_kind};
+use crate::cursor::{Cursor, accept, advance, begins, begins_name, expect};
+use crate::expressions::{OPERATORS, read_expression};
 use crate::list::Part;
 use crate::names::{read_alias, read_name};
-use crate::rest::{Rest, behind_first};
-use crate::skips::skip;
+use crate::source::Source;
 use crate::stop::Stop;
 use hc_ast::Item;
 use hc_lex::TokenKind;
 use std::alloc::Global;
 
 impl Part for Item {
-    ghost reader = { item };
+    ghost grammar = { Within Asked };
 
-    fn read(alloc: Global, rest: Rest<'_>) -> Result<(Item, Rest<'_>), Stop<'_>> {
-        if begins_all_of(rest) {
-            return read_all_of(alloc, rest);
+    fn read(alloc: Global, source: &Source<'_>, cursor: &mut Cursor) -> Result<Item, Stop> {
+        if begins_all_of(source, cursor) {
+            return read_all_of(alloc, source, cursor);
         }
-        if begins(rest.pieces, TokenKind::Star) {
-            return Ok((Item::All, behind_first(rest)));
+        if accept(source, cursor, TokenKind::Star) {
+            return Ok(Item::All);
         }
-        read_one(alloc, rest)
+        let value = read_expression(alloc, source, cursor)?;
+        let alias = read_alias(alloc, source, cursor)?;
+        Ok(Item::One { value, alias })
     }
 }
 
-// Whether `name.*` stands there.
-fn begins_all_of(rest: Rest<'_>) -> bool
-    ensures { result ≡ begins_all_of (seen rest.entry.pieces.now) }
+// Whether `name.*` is next.
+#[tactic(auto, using(crate::proofs::Left::all_of_is))]
+fn begins_all_of(source: &Source<'_>, cursor: &Cursor) -> bool
+    ensures { result ≡ begins_all_of (left source.now cursor.now) }
 {
-    match rest.pieces {
-        [name, dot, star, ..] => {
-            is_among(name, &[TokenKind::Name, TokenKind::QuotedName])
-                && is_kind(dot, TokenKind::Dot)
-                && is_kind(star, TokenKind::Star)
-        }
-        _ => false,
+    if !begins_name(source, cursor) {
+        return false;
     }
+    let mut ahead = *cursor;
+    advance(source, &mut ahead);
+    accept(source, &mut ahead, TokenKind::Dot) && begins(source, &ahead, TokenKind::Star)
 }
 
-fn read_all_of(alloc: Global, rest: Rest<'_>) -> Result<(Item, Rest<'_>), Stop<'_>>
-    ensures { Gives result (read_of all_of limits rest.entry) }
+fn read_all_of(alloc: Global, source: &Source<'_>, cursor: &mut Cursor) -> Result<Item, Stop>
+    ensures { Gives source.now result cursor.new (from source.now all_of cursor.old) }
 {
-    let (table, rest) = read_name(alloc, rest)?;
-    let rest = skip(rest, TokenKind::Dot)?;
-    let rest = skip(rest, TokenKind::Star)?;
-    Ok((Item::AllOf(table), rest))
-}
-
-fn read_one(alloc: Global, rest: Rest<'_>) -> Result<(Item, Rest<'_>), Stop<'_>>
-    ensures { Gives result (read_of one_item limits rest.entry) }
-{
-    let (value, rest) = read_expression(alloc, rest)?;
-    let (alias, rest) = read_alias(alloc, rest)?;
-    Ok((Item::One { value, alias }, rest))
+    cursor.operators = OPERATORS;
+    let table = read_name(alloc, source, cursor)?;
+    expect(source, cursor, TokenKind::Dot)?;
+    expect(source, cursor, TokenKind::Star)?;
+    Ok(Item::AllOf(table))
 }
 
 /// Whether one of them wants FROM, as `*` does.

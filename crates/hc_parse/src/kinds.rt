@@ -1,19 +1,17 @@
-// Tests of the first tokens.
-ghost use Rattle.std.specs.Prelude.{◌≡◌, ◌<◌};
-ghost use Rattle.hc_parse.specs.Kinds.{keyword_number, kind_number, is, among, head_is};
-ghost use Rattle.hc_parse.specs.Seen.{lexeme_of, seen};
-
-use crate::piece::Piece;
+ghost use Rattle.std.specs.Prelude.{◌≡◌, ◌<◌, ◌==◌, ◌^◌, nat_lt, if◌then◌else◌};
+ghost use Rattle.hc_grammar.specs.Kinds.{keyword_number, kind_number};
+// Kinds of tokens.
 use hc_lex::{Keyword, TokenKind};
 
 // The number of a kind, which tells it from each other one.
+#[inline(always)]
 fn number_of(kind: TokenKind) -> u8
     ensures { result ≡ kind_number kind }
 {
     match kind {
         TokenKind::Name => 0,
         TokenKind::QuotedName => 1,
-        TokenKind::Integer(_) => 2,
+        TokenKind::Integer(n) => number_of_integer(n),
         TokenKind::Text => 3,
         TokenKind::Blob => 4,
         TokenKind::LeftParen => 5,
@@ -39,6 +37,20 @@ fn number_of(kind: TokenKind) -> u8
     }
 }
 
+#[inline(always)]
+fn number_of_integer(n: u64) -> u8
+    ensures { result ≡ (if nat_lt n (2 ^ 63) then 2 else (if n == 2 ^ 63 then 76 else 77)) }
+{
+    if n < 1 << 63 {
+        2
+    } else if n == 1 << 63 {
+        76
+    } else {
+        77
+    }
+}
+
+#[inline(always)]
 fn word_number(word: Keyword) -> u8
     ensures number { result ≡ keyword_number word }
     ensures small { result < 52 }
@@ -46,39 +58,10 @@ fn word_number(word: Keyword) -> u8
     word as u8
 }
 
-/// Whether a token is of this kind. All integers are of one kind, whatever their number.
-pub fn is_kind(piece: &Piece<'_>, kind: TokenKind) -> bool
-    ensures { result ≡ is kind (lexeme_of piece.now) }
+/// Whether two kinds are one. All integers below 9223372036854775808 are of one kind, whatever their number.
+#[inline(always)]
+pub fn is_kind(found: TokenKind, wanted: TokenKind) -> bool
+    ensures { result ≡ (kind_number found == kind_number wanted) }
 {
-    number_of(piece.token.kind) == number_of(kind)
-}
-
-/// Whether a token of this kind stands first.
-pub fn begins(pieces: &[Piece<'_>], kind: TokenKind) -> bool
-    ensures { result ≡ head_is (is kind) (seen pieces.now) }
-{
-    match pieces.split_first() {
-        Some((first, _)) => is_kind(first, kind),
-        None => false,
-    }
-}
-
-/// Whether a token is of one of these kinds.
-pub fn is_among(piece: &Piece<'_>, kinds: &[TokenKind]) -> bool
-    ensures { result ≡ among kinds.now (lexeme_of piece.now) }
-{
-    match kinds.split_first() {
-        Some((kind, others)) => is_kind(piece, *kind) || is_among(piece, others),
-        None => false,
-    }
-}
-
-/// Whether a token of one of these kinds stands first.
-pub fn begins_any(pieces: &[Piece<'_>], kinds: &[TokenKind]) -> bool
-    ensures { result ≡ head_is (among kinds.now) (seen pieces.now) }
-{
-    match pieces.split_first() {
-        Some((first, _)) => is_among(first, kinds),
-        None => false,
-    }
+    number_of(found) == number_of(wanted)
 }

@@ -1,26 +1,25 @@
 // The statement that the tokens of a text are.
-ghost use Rattle.std.specs.Prelude.{◌≡◌, ◌<◌, ◌^◌, ◌-◌, Ok, Err, IfOk, IfErr, ℕ, List, drop, length};
-ghost use Rattle.hc_lex.specs.Places.{TokensAscend, TokensAtCharacters};
-ghost use Rattle.hc_lex.specs.Reading.{HasTokens};
+ghost use Rattle.std.specs.Prelude.{◌≡◌, ◌<◌, ◌^◌, Ok, Err, IfOk, IfErr, drop, length};
 ghost use Rattle.hc_ast.specs.declared.statement.Stmt.{Stmt as Statement};
+ghost use Rattle.hc_grammar.specs.Faults.{IsStatementOf, place_of};
+ghost use Rattle.hc_lex.specs.Reading.{HasTokens};
 ghost use Rattle.hc_parse.specs.declared.fault.ParseFault.{ParseFault as Fault};
-ghost use Rattle.hc_parse.specs.Coded.{stop_fault};
-ghost use Rattle.hc_parse.specs.Faults.{HasFault, place_of};
-ghost use Rattle.hc_parse.specs.Laws.{IsAnswer, IsCauseOf, IsStatementOf, IsUnlessNoMemory};
-ghost use Rattle.hc_parse.specs.Lexemes.{lexeme_of, lexemes_of};
-ghost use Rattle.hc_parse.specs.Pieces.{IsSound};
-ghost use Rattle.hc_parse.specs.Seen.{lexeme_of as lexeme_seen, seen};
+ghost use Rattle.hc_parse.specs.Coded.{AtEnd, fault_of};
+ghost use Rattle.hc_parse.specs.Laws.{HasFault, IsAnswer, IsCauseOf, IsUnlessNoMemory};
 
+use crate::cursor::Cursor;
+use crate::expressions::OPERATORS;
 use crate::fault::ParseFault;
-use crate::piece::Piece;
-use crate::rest::Rest;
-use crate::statement::read_whole;
-use crate::stop::{Reason, Stop};
+use crate::source::Source;
+use crate::statement::read_statement;
+use crate::stop::Stop;
 use hc_ast::Stmt;
 use hc_lex::Token;
 use hc_lex::laws::{tokens_lie_at_characters, tokens_lie_in_order};
-use hc_value::NoMemory;
 use std::alloc::Global;
+
+/// How many tables FROM may have.
+const TABLES: u32 = 8;
 
 /// The statement that the tokens of a text are, or the fault of least place. The tokens are those of `hc_lex`
 /// for this text, which has less than 2^32 bytes. At most 100 levels may be open at once, an expression that is part
@@ -47,67 +46,54 @@ fn read(alloc: Global, text: &str, tokens: &[Token]) -> Result<Stmt, ParseFault>
     // Tokens lie in their text, between characters.
     tokens_lie_in_order();
     tokens_lie_at_characters();
-    let Ok(pieces) = pieces_of(alloc, text, tokens) else {
-        return Err(ParseFault::NoMemory);
+    let source = Source { text, tokens };
+    let mut cursor = Cursor {
+        at: 0,
+        operators: OPERATORS,
+        tables: TABLES,
     };
-    let rest = Rest {
-        operators: 0,
-        pieces: pieces.as_slice(),
-    };
-    match read_whole(alloc, rest) {
-        Ok((statement, _)) => Ok(statement),
-        Err(stop) => Err(fault_of(stop, tokens, text.len() as u32)),
+    let found = read_statement(alloc, &source, &mut cursor);
+    match at_end(found, &source, &cursor) {
+        Ok(statement) => Ok(statement),
+        Err(stop) => Err(fault_of(stop, place_of(&source, &cursor))),
     }
 }
 
-// The fault that a stop among the tokens of a text is.
-fn fault_of(stop: Stop<'_>, tokens: &[Token], end: u32) -> ParseFault
-    ensures { (text : List ℕ) → length text ≡ end → result ≡ stop_fault text tokens.now stop.entry }
+// Nothing may come after a value. The type is not known here, so that its drop is one step of the proof.
+#[inline(always)]
+fn at_end<T: Drop>(found: Result<T, Stop>, source: &Source<'_>, cursor: &Cursor) -> Result<T, Stop>
+    ensures { AtEnd source.now cursor.now found result }
 {
-    let Stop::At(reason, left) = stop else {
-        return ParseFault::NoMemory;
-    };
-    let at = place_before(tokens, left.len(), end);
-    match reason {
-        Reason::Unexpected | Reason::NoTable => ParseFault::Syntax { at },
-        Reason::NoLevel | Reason::NoOperator | Reason::NoOperatorForNot => {
-            ParseFault::TooDeep { at }
+    match found {
+        Ok(value) => {
+            if cursor.at < source.tokens.len() {
+                Err(Stop::Unexpected)
+            } else {
+                Ok(value)
+            }
         }
+        Err(stop) => Err(stop),
     }
 }
 
-// The place of the first of the tokens that are left, or the end of the text.
-fn place_before(tokens: &[Token], left: usize, end: u32) -> u32
-    ensures { (text : List ℕ) → length text ≡ end → result ≡ place_of text (drop (length tokens.now - left) tokens.now) }
+// The fault that a stop is.
+fn fault_of(stop: Stop, at: u32) -> ParseFault
+    ensures { result ≡ fault_of stop at }
 {
-    match tokens[tokens.len() - left.min(tokens.len())..].first() {
-        Some(first) => first.from,
-        None => end,
+    match stop {
+        Stop::Unexpected => ParseFault::Syntax { at },
+        Stop::TooDeep => ParseFault::TooDeep { at },
+        Stop::NoMemory => ParseFault::NoMemory,
     }
 }
 
-// The tokens with the text that each stands on.
-fn pieces_of<'a>(alloc: Global, text: &'a str, tokens: &[Token]) -> Result<Vec<Piece<'a>>, NoMemory>
-    requires places { TokensAscend 0 (length text.now) tokens.now }
-    requires boundaries { TokensAtCharacters text.now tokens.now }
-    requires tokens { HasTokens text.now tokens.now }
-    ensures { IfOk result (λ pieces. seen pieces.items ≡ lexemes_of text.now tokens.now) }
+// The place of the next token, or the end of the text.
+fn place_of(source: &Source<'_>, cursor: &Cursor) -> u32
+    requires { length source.now.text.now < 2 ^ 32 }
+    ensures { result ≡ place_of source.now.text.now (drop cursor.now.at source.now.tokens.now) }
 {
-    let mut pieces = Vec::new(alloc);
-    let mut left = tokens;
-    'tokens: while let Some((token, rest)) = left.split_first() {
-        pieces.push(piece_of(text, token))?;
-        left = rest;
-    }
-    Ok(pieces)
-}
-
-fn piece_of<'a>(text: &'a str, token: &Token) -> Piece<'a>
-    requires { IsSound text.now token.now }
-    ensures { lexeme_seen result ≡ lexeme_of text.now token.now }
-{
-    Piece {
-        token: *token,
-        text: &text[token.from as usize..token.to as usize],
+    match source.tokens.get(cursor.at) {
+        Some(token) => token.from,
+        None => source.text.len() as u32,
     }
 }

@@ -1,15 +1,16 @@
 // Names and expressions in lists, and those in parentheses.
-ghost use Rattle.hc_parse.specs.Limits.{limits};
-ghost use Rattle.hc_parse.specs.Coded.{Gives, read_of};
-ghost use Rattle.hc_parse.specs.ReadingExpressions.{name, expression};
-ghost use Rattle.hc_parse.specs.ReadingQueries.{clause};
-ghost use Rattle.hc_parse.specs.ReadingStatements.{names, row};
+ghost use Rattle.std.specs.Prelude.{◌∷◌, []};
+ghost use Rattle.hc_grammar.specs.Expressions.{expression};
+ghost use Rattle.hc_grammar.specs.Phrases.{name, names};
+ghost use Rattle.hc_grammar.specs.Queries.{clause};
+ghost use Rattle.hc_grammar.specs.Statements.{row};
+ghost use Rattle.hc_parse.specs.Coded.{Gives, from};
 
+use crate::cursor::{Cursor, accept_word, expect};
 use crate::expressions::read_expression;
 use crate::list::{Part, read_list};
 use crate::names::read_name;
-use crate::rest::{Rest, behind_first};
-use crate::skips::{begins_word, skip};
+use crate::source::Source;
 use crate::stop::Stop;
 use hc_ast::{Expr, ExprRow};
 use hc_lex::{Keyword, TokenKind};
@@ -18,51 +19,58 @@ use sqlite_items::Items;
 use std::alloc::Global;
 
 impl Part for Str {
-    ghost reader = { name };
+    ghost grammar = { name };
 
-    fn read(alloc: Global, rest: Rest<'_>) -> Result<(Str, Rest<'_>), Stop<'_>> {
-        read_name(alloc, rest)
+    fn read(alloc: Global, source: &Source<'_>, cursor: &mut Cursor) -> Result<Str, Stop> {
+        read_name(alloc, source, cursor)
     }
 }
 
 impl Part for Expr {
-    ghost reader = { expression };
+    ghost grammar = { expression };
 
-    fn read(alloc: Global, rest: Rest<'_>) -> Result<(Expr, Rest<'_>), Stop<'_>> {
-        read_expression(alloc, rest)
+    fn read(alloc: Global, source: &Source<'_>, cursor: &mut Cursor) -> Result<Expr, Stop> {
+        read_expression(alloc, source, cursor)
     }
 }
 
 impl Part for ExprRow {
-    ghost reader = { row };
+    ghost grammar = { row };
 
-    fn read(alloc: Global, rest: Rest<'_>) -> Result<(ExprRow, Rest<'_>), Stop<'_>> {
-        let rest = skip(rest, TokenKind::LeftParen)?;
-        let (values, rest) = read_list(alloc, rest)?;
-        Ok((ExprRow { values }, skip(rest, TokenKind::RightParen)?))
+    fn read(alloc: Global, source: &Source<'_>, cursor: &mut Cursor) -> Result<ExprRow, Stop> {
+        expect(source, cursor, TokenKind::LeftParen)?;
+        let values = read_list(alloc, source, cursor)?;
+        expect(source, cursor, TokenKind::RightParen)?;
+        Ok(ExprRow { values })
     }
 }
 
 /// Names in parentheses.
-pub fn read_names(alloc: Global, rest: Rest<'_>) -> Result<(Items<Str>, Rest<'_>), Stop<'_>>
-    ensures { Gives result (read_of names limits rest.entry) }
+pub fn read_names(
+    alloc: Global,
+    source: &Source<'_>,
+    cursor: &mut Cursor,
+) -> Result<Items<Str>, Stop>
+    ensures { Gives source.now result cursor.new (from source.now (names) cursor.old) }
 {
-    let rest = skip(rest, TokenKind::LeftParen)?;
-    let (names, rest) = read_list(alloc, rest)?;
-    Ok((names, skip(rest, TokenKind::RightParen)?))
+    expect(source, cursor, TokenKind::LeftParen)?;
+    let names = read_list(alloc, source, cursor)?;
+    expect(source, cursor, TokenKind::RightParen)?;
+    Ok(names)
 }
 
 /// A keyword and an expression, or nothing.
 pub fn read_clause(
     alloc: Global,
-    rest: Rest<'_>,
+    source: &Source<'_>,
+    cursor: &mut Cursor,
     word: Keyword,
-) -> Result<(Option<Expr>, Rest<'_>), Stop<'_>>
-    ensures { Gives result (read_of (clause (TokenKind.Keyword word)) limits rest.entry) }
+) -> Result<Option<Expr>, Stop>
+    ensures { Gives source.now result cursor.new (from source.now (clause (word ∷ [])) cursor.old) }
 {
-    if !begins_word(rest, word) {
-        return Ok((None, rest));
+    if !accept_word(source, cursor, word) {
+        return Ok(None);
     }
-    let (condition, rest) = read_expression(alloc, behind_first(rest))?;
-    Ok((Some(condition), rest))
+    let condition = read_expression(alloc, source, cursor)?;
+    Ok(Some(condition))
 }

@@ -1,37 +1,45 @@
 // Queries.
-ghost use Rattle.std.specs.Prelude.{◌≡◌, []};
-ghost use Rattle.hc_parse.specs.Limits.{limits};
-ghost use Rattle.hc_parse.specs.Coded.{Gives, read_of};
-ghost use Rattle.hc_parse.specs.Readers.{flag, both};
-ghost use Rattle.hc_parse.specs.Kinds.{head_is};
-ghost use Rattle.hc_parse.specs.Seen.{lexeme_of, seen};
-ghost use Rattle.hc_parse.specs.ReadingQueries.{query, ending, limiting, offset, ordering, grouping, direction, is_plain};
+ghost use Rattle.std.specs.Prelude.{◌∷◌, []};
+ghost use Rattle.hc_ast.specs.declared.statement.Stmt.TheVariants as stmt;
+ghost use Rattle.hc_grammar.specs.Grammar.{Made};
+ghost use Rattle.hc_grammar.specs.Phrases.{after_words, flag, maybe};
+ghost use Rattle.hc_grammar.specs.Queries.{grouping, integer, limiting, ordering, query, rows};
+ghost use Rattle.hc_parse.specs.Coded.{Gives, from};
 
+use crate::cursor::{Cursor, accept_word, expect_word};
 use crate::expressions::read_expression;
 use crate::items::any_wants_from;
-use crate::kinds::is_kind;
 use crate::list::{Part, read_list};
-use crate::numbers::read_integer;
+use crate::names::{read_direction, read_integer};
 use crate::parts::read_clause;
-use crate::piece::Piece;
-use crate::rest::{Rest, behind_first};
-use crate::skips::{begins_word, skip_word};
+use crate::source::Source;
 use crate::stop::Stop;
 use crate::tables::read_from;
-use hc_ast::{Expr, Select, Term};
-use hc_lex::{Keyword, TokenKind};
+use hc_ast::{Expr, FromTable, Item, Select, Stmt, Term};
+use hc_lex::Keyword;
 use sqlite_items::Items;
 use std::alloc::Global;
 
-/// A query behind its SELECT.
-pub fn read_query(alloc: Global, rest: Rest<'_>) -> Result<(Select, Rest<'_>), Stop<'_>>
-    ensures { Gives result (read_of query limits rest.entry) }
+/// SELECT.
+pub fn read_select(alloc: Global, source: &Source<'_>, cursor: &mut Cursor) -> Result<Stmt, Stop>
+    ensures { Gives source.now result cursor.new (from source.now (after_words (Keyword.Select ∷ []) (Made stmt.Select query)) cursor.old) }
 {
-    let (distinct, rest) = read_distinct(rest);
-    let (items, rest) = read_list(alloc, rest)?;
-    let (tables, rest) = read_from(alloc, rest, any_wants_from(items.as_slice()))?;
-    let ((filter, ((groups, having), (order, (limit, offset)))), rest) = read_ending(alloc, rest)?;
-    let select = Select {
+    expect_word(source, cursor, Keyword::Select)?;
+    let query = read_query(alloc, source, cursor)?;
+    Ok(Stmt::Select(query))
+}
+
+// What follows SELECT.
+fn read_query(alloc: Global, source: &Source<'_>, cursor: &mut Cursor) -> Result<Select, Stop>
+    ensures { Gives source.now result cursor.new (from source.now (query) cursor.old) }
+{
+    let distinct = read_distinct(source, cursor);
+    let (items, tables) = read_rows(alloc, source, cursor)?;
+    let filter = read_clause(alloc, source, cursor, Keyword::Where)?;
+    let (groups, having) = read_grouping(alloc, source, cursor)?;
+    let order = read_ordering(alloc, source, cursor)?;
+    let (limit, offset) = read_limiting(source, cursor)?;
+    Ok(Select {
         distinct,
         items,
         tables,
@@ -41,142 +49,90 @@ pub fn read_query(alloc: Global, rest: Rest<'_>) -> Result<(Select, Rest<'_>), S
         order,
         limit,
         offset,
-    };
-    Ok((select, rest))
+    })
 }
 
-// DISTINCT or nothing: whether it stands.
-fn read_distinct(rest: Rest<'_>) -> (bool, Rest<'_>)
-    ensures { Gives (Ok result) (read_of (flag (TokenKind.Keyword Keyword.Distinct) []) limits rest.entry) }
+// DISTINCT or nothing: whether it is there.
+fn read_distinct(source: &Source<'_>, cursor: &mut Cursor) -> bool
+    ensures { Gives source.now (Ok result) cursor.new (from source.now (flag (Keyword.Distinct ∷ [])) cursor.old) }
 {
-    if begins_word(rest, Keyword::Distinct) {
-        (true, behind_first(rest))
-    } else {
-        (false, rest)
-    }
+    accept_word(source, cursor, Keyword::Distinct)
+}
+
+// What is asked for, and the tables of FROM.
+type Rows = (Items<Item>, Items<FromTable>);
+
+fn read_rows(alloc: Global, source: &Source<'_>, cursor: &mut Cursor) -> Result<Rows, Stop>
+    ensures { Gives source.now result cursor.new (from source.now rows cursor.old) }
+{
+    let items = read_list(alloc, source, cursor)?;
+    let is_needed = any_wants_from(items.as_slice());
+    let tables = read_from(alloc, source, cursor, is_needed)?;
+    Ok((items, tables))
 }
 
 // GROUP BY's expressions, and HAVING's condition.
-type Grouping = (Items<Expr>, Option<Expr>);
+type Groups = (Items<Expr>, Option<Expr>);
 
 // The numbers of LIMIT and OFFSET.
-type Limiting = (Option<i64>, Option<i64>);
+type Bounds = (Option<i64>, Option<i64>);
 
-// ORDER BY's terms, and these numbers.
-type Ordered = (Items<Term>, Limiting);
-
-// WHERE's condition, and what stands behind it.
-type Ending = (Option<Expr>, (Grouping, Ordered));
-
-// The parts of a query behind its tables. One function for each two parts keeps few values where one of them stops.
-fn read_ending(alloc: Global, rest: Rest<'_>) -> Result<(Ending, Rest<'_>), Stop<'_>>
-    ensures { Gives result (read_of ending limits rest.entry) }
+// GROUP BY with its expressions, and HAVING where it follows.
+fn read_grouping(alloc: Global, source: &Source<'_>, cursor: &mut Cursor) -> Result<Groups, Stop>
+    ensures { Gives source.now result cursor.new (from source.now (grouping) cursor.old) }
 {
-    let (filter, rest) = read_clause(alloc, rest, Keyword::Where)?;
-    let (grouped, rest) = read_grouped(alloc, rest)?;
-    Ok(((filter, grouped), rest))
-}
-
-// The parts behind WHERE.
-fn read_grouped(alloc: Global, rest: Rest<'_>) -> Result<((Grouping, Ordered), Rest<'_>), Stop<'_>>
-    ensures { Gives result (read_of (both grouping (λ groups. both ordering (λ order. limiting))) limits rest.entry) }
-{
-    let (grouping, rest) = read_grouping(alloc, rest)?;
-    let (ordered, rest) = read_ordered(alloc, rest)?;
-    Ok(((grouping, ordered), rest))
-}
-
-// The parts behind GROUP BY and HAVING.
-fn read_ordered(alloc: Global, rest: Rest<'_>) -> Result<(Ordered, Rest<'_>), Stop<'_>>
-    ensures { Gives result (read_of (both ordering (λ order. limiting)) limits rest.entry) }
-{
-    let (order, rest) = read_ordering(alloc, rest)?;
-    let (limiting, rest) = read_limiting(rest)?;
-    Ok(((order, limiting), rest))
-}
-
-// GROUP BY with its expressions, and HAVING where it stands.
-fn read_grouping(alloc: Global, rest: Rest<'_>) -> Result<(Grouping, Rest<'_>), Stop<'_>>
-    ensures { Gives result (read_of grouping limits rest.entry) }
-{
-    if !begins_word(rest, Keyword::Group) {
-        return Ok(((Items::new(alloc), None), rest));
+    if !accept_word(source, cursor, Keyword::Group) {
+        return Ok((Items::new(alloc), None));
     }
-    let rest = skip_word(behind_first(rest), Keyword::By)?;
-    let (groups, rest) = read_list(alloc, rest)?;
-    let (having, rest) = read_clause(alloc, rest, Keyword::Having)?;
-    Ok(((groups, having), rest))
+    expect_word(source, cursor, Keyword::By)?;
+    let groups = read_list(alloc, source, cursor)?;
+    let having = read_clause(alloc, source, cursor, Keyword::Having)?;
+    Ok((groups, having))
 }
 
-fn read_ordering(alloc: Global, rest: Rest<'_>) -> Result<(Items<Term>, Rest<'_>), Stop<'_>>
-    ensures { Gives result (read_of ordering limits rest.entry) }
+fn read_ordering(
+    alloc: Global,
+    source: &Source<'_>,
+    cursor: &mut Cursor,
+) -> Result<Items<Term>, Stop>
+    ensures { Gives source.now result cursor.new (from source.now (ordering) cursor.old) }
 {
-    if !begins_word(rest, Keyword::Order) {
-        return Ok((Items::new(alloc), rest));
+    if !accept_word(source, cursor, Keyword::Order) {
+        return Ok(Items::new(alloc));
     }
-    let rest = skip_word(behind_first(rest), Keyword::By)?;
-    read_list(alloc, rest)
+    expect_word(source, cursor, Keyword::By)?;
+    read_list(alloc, source, cursor)
 }
 
-// LIMIT with its number, and OFFSET where it stands.
-fn read_limiting(rest: Rest<'_>) -> Result<(Limiting, Rest<'_>), Stop<'_>>
-    ensures { Gives result (read_of limiting limits rest.entry) }
+// LIMIT with its number, and OFFSET where it follows.
+fn read_limiting(source: &Source<'_>, cursor: &mut Cursor) -> Result<Bounds, Stop>
+    ensures { Gives source.now result cursor.new (from source.now (limiting) cursor.old) }
 {
-    if !begins_word(rest, Keyword::Limit) {
-        return Ok(((None, None), rest));
+    if !accept_word(source, cursor, Keyword::Limit) {
+        return Ok((None, None));
     }
-    let (limit, rest) = read_integer(behind_first(rest))?;
-    let (offset, rest) = read_offset(rest)?;
-    Ok(((Some(limit), offset), rest))
+    let limit = Some(read_integer(source, cursor)?);
+    let offset = read_offset(source, cursor)?;
+    Ok((limit, offset))
 }
 
-fn read_offset(rest: Rest<'_>) -> Result<(Option<i64>, Rest<'_>), Stop<'_>>
-    ensures { Gives result (read_of offset limits rest.entry) }
+fn read_offset(source: &Source<'_>, cursor: &mut Cursor) -> Result<Option<i64>, Stop>
+    ensures { Gives source.now result cursor.new (from source.now (maybe (after_words (Keyword.Offset ∷ []) integer)) cursor.old) }
 {
-    if !begins_word(rest, Keyword::Offset) {
-        return Ok((None, rest));
+    if !accept_word(source, cursor, Keyword::Offset) {
+        return Ok(None);
     }
-    let (offset, rest) = read_integer(behind_first(rest))?;
-    Ok((Some(offset), rest))
+    Ok(Some(read_integer(source, cursor)?))
 }
 
 impl Part for Term {
-    ghost use Rattle.hc_parse.specs.ReadingQueries.{term};
+    ghost use Rattle.hc_grammar.specs.Queries.{term};
 
-    ghost reader = { term };
+    ghost grammar = { term };
 
-    fn read(alloc: Global, rest: Rest<'_>) -> Result<(Term, Rest<'_>), Stop<'_>> {
-        let (value, rest) = read_expression(alloc, rest)?;
-        let (desc, rest) = read_direction(rest);
-        Ok((Term { value, desc }, rest))
+    fn read(alloc: Global, source: &Source<'_>, cursor: &mut Cursor) -> Result<Term, Stop> {
+        let value = read_expression(alloc, source, cursor)?;
+        let desc = read_direction(source, cursor)?;
+        Ok(Term { value, desc })
     }
-}
-
-// ASC, DESC or nothing: whether the order is turned round.
-fn read_direction(rest: Rest<'_>) -> (bool, Rest<'_>)
-    ensures { Gives (Ok result) (read_of direction limits rest.entry) }
-{
-    if begins_plain(rest, b"DESC") {
-        return (true, behind_first(rest));
-    }
-    if begins_plain(rest, b"ASC") {
-        return (false, behind_first(rest));
-    }
-    (false, rest)
-}
-
-// Whether a plain name of these letters stands first.
-fn begins_plain(rest: Rest<'_>, letters: &[u8]) -> bool
-    ensures { result ≡ head_is (is_plain letters.now) (seen rest.entry.pieces.now) }
-{
-    match rest.pieces.first() {
-        Some(first) => is_plain(first, letters),
-        None => false,
-    }
-}
-
-fn is_plain(piece: &Piece<'_>, letters: &[u8]) -> bool
-    ensures { result ≡ is_plain letters.now (lexeme_of piece.now) }
-{
-    is_kind(piece, TokenKind::Name) && letters.eq_ignore_ascii_case(piece.text.as_bytes())
 }

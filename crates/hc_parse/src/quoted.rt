@@ -1,13 +1,13 @@
-// What stands within quotes.
+// What is within quotes.
 ghost use Rattle.std.specs.Prelude.{◌≡◌, ◌<◌, ◌≤◌, ◌∷◌, true, length, IfOk, IfSome, IfNone};
 ghost use Rattle.std.specs.Char.{is_ascii_hexdigit, digit_value};
-ghost use Rattle.hc_parse.specs.Literals.{also, unquoted, undoubled, blob_of, digit_bytes};
+ghost use Rattle.hc_grammar.specs.Terminals.{also, unquoted, undoubled, blob_of, digit_bytes};
 ghost use Rattle.hc_parse.specs.Pieces.{closes, are_hex_pairs, are_blob_digits};
 
 use hc_value::{Blob, NoMemory, Str};
 use std::alloc::Global;
 
-/// What stands within quotes, each quote within once; nothing where the text is not in such quotes.
+/// What is within quotes, each quote within once; nothing where the text is not in such quotes.
 pub fn unquoted(alloc: Global, quote: u8, text: &str) -> Result<Option<Str>, NoMemory>
     requires { quote < 128 }
     ensures { IfOk result (λ inner. inner ≡ unquoted quote text.now) }
@@ -33,11 +33,11 @@ fn unquoted_bytes(alloc: Global, quote: u8, bytes: &[u8]) -> Result<Option<Vec<u
 fn undoubled(alloc: Global, quote: u8, bytes: &[u8]) -> Result<Option<Vec<u8>>, NoMemory>
     ensures { IfOk result (λ inner. also (λ v. v.items) inner ≡ undoubled quote bytes.now) }
 {
-    let mut out = Vec::new(alloc);
+    let mut out = Vec::with_capacity(alloc, bytes.len().saturating_sub(1))?;
     let mut rest = bytes;
-    'bytes: while let Some((first, behind)) = rest.split_first() {
-        let Some(left) = behind_inner(quote, *first, behind) else {
-            return Ok(if behind.is_empty() { Some(out) } else { None });
+    'bytes: while let Some((first, after)) = rest.split_first() {
+        let Some(left) = after_inner(quote, *first, after) else {
+            return Ok(if after.is_empty() { Some(out) } else { None });
         };
         out.push(*first)?;
         rest = left;
@@ -45,16 +45,16 @@ fn undoubled(alloc: Global, quote: u8, bytes: &[u8]) -> Result<Option<Vec<u8>>, 
     Ok(None)
 }
 
-// What stands behind a byte within quotes, and behind its double where it is a quote; nothing behind a closing one.
-fn behind_inner(quote: u8, first: u8, behind: &[u8]) -> Option<&[u8]>
-    ensures some { IfSome result (λ left. undoubled quote (first ∷ behind.now) ≡ also (λ inner. first ∷ inner) (undoubled quote left.now)) }
-    ensures shorter { IfSome result (λ left. length left.now ≤ length behind.now) }
-    ensures none { IfNone result (undoubled quote (first ∷ behind.now) ≡ closes behind.now) }
+// What stands after a byte within quotes, and after its double where it is a quote; nothing after a closing one.
+fn after_inner(quote: u8, first: u8, after: &[u8]) -> Option<&[u8]>
+    ensures some { IfSome result (λ left. undoubled quote (first ∷ after.now) ≡ also (λ inner. first ∷ inner) (undoubled quote left.now)) }
+    ensures shorter { IfSome result (λ left. length left.now ≤ length after.now) }
+    ensures none { IfNone result (undoubled quote (first ∷ after.now) ≡ closes after.now) }
 {
     if first != quote {
-        return Some(behind);
+        return Some(after);
     }
-    match behind.split_first() {
+    match after.split_first() {
         Some((second, left)) if *second == quote => Some(left),
         _ => None,
     }
@@ -75,10 +75,10 @@ fn digit_bytes(alloc: Global, digits: &[u8]) -> Result<Option<Blob>, NoMemory>
     requires { are_hex_pairs digits.now ≡ true }
     ensures { IfOk result (λ inner. inner ≡ digit_bytes digits.now) }
 {
-    let mut out = Vec::new(alloc);
+    let mut out = Vec::with_capacity(alloc, digits.len() / 2)?;
     let mut rest = digits;
     'pairs: while let Some((high, tail)) = rest.split_first() {
-        let Some((low, behind)) = tail.split_first() else {
+        let Some((low, after)) = tail.split_first() else {
             return Ok(if *high == b'\'' {
                 Some(Blob::from_vec(out))
             } else {
@@ -86,7 +86,7 @@ fn digit_bytes(alloc: Global, digits: &[u8]) -> Result<Option<Blob>, NoMemory>
             });
         };
         out.push(16 * digit_value(*high) + digit_value(*low))?;
-        rest = behind;
+        rest = after;
     }
     Ok(None)
 }

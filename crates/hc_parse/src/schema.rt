@@ -1,106 +1,108 @@
 // Statements that make or drop tables and indexes.
-ghost use Rattle.hc_parse.specs.Limits.{limits};
-ghost use Rattle.hc_parse.specs.Coded.{Gives, read_of};
-ghost use Rattle.hc_parse.specs.ReadingStatements.{create, create_table, create_index, drop_statement, if_exists_flag, if_not_exists_flag};
+ghost use Rattle.hc_grammar.specs.Statements.{create, create_index, create_table, drop_statement, if_exists, if_not_exists};
+ghost use Rattle.hc_parse.specs.Coded.{Gives, from};
 
 use crate::columns::read_parts;
+use crate::cursor::{Cursor, accept_word, begins_word, expect, expect_word};
 use crate::names::read_name;
 use crate::parts::read_names;
-use crate::rest::{Rest, behind_first};
-use crate::skips::{begins_word, skip, skip_word};
+use crate::source::Source;
 use crate::stop::Stop;
 use hc_ast::Stmt;
 use hc_lex::{Keyword, TokenKind};
 use std::alloc::Global;
 
-/// What stands behind CREATE.
-pub fn read_create(alloc: Global, rest: Rest<'_>) -> Result<(Stmt, Rest<'_>), Stop<'_>>
-    ensures { Gives result (read_of create limits rest.entry) }
+/// CREATE.
+pub fn read_create(alloc: Global, source: &Source<'_>, cursor: &mut Cursor) -> Result<Stmt, Stop>
+    ensures { Gives source.now result cursor.new (from source.now (create) cursor.old) }
 {
-    if begins_word(rest, Keyword::Table) {
-        return read_create_table(alloc, behind_first(rest));
+    expect_word(source, cursor, Keyword::Create)?;
+    if begins_word(source, cursor, Keyword::Table) {
+        return read_create_table(alloc, source, cursor);
     }
-    if begins_word(rest, Keyword::Unique) {
-        let rest = skip_word(behind_first(rest), Keyword::Index)?;
-        return read_create_index(alloc, rest, true);
+    if accept_word(source, cursor, Keyword::Unique) {
+        return read_create_index(alloc, source, cursor, true);
     }
-    let rest = skip_word(rest, Keyword::Index)?;
-    read_create_index(alloc, rest, false)
+    read_create_index(alloc, source, cursor, false)
 }
 
-fn read_create_table(alloc: Global, rest: Rest<'_>) -> Result<(Stmt, Rest<'_>), Stop<'_>>
-    ensures { Gives result (read_of create_table limits rest.entry) }
+fn read_create_table(alloc: Global, source: &Source<'_>, cursor: &mut Cursor) -> Result<Stmt, Stop>
+    ensures { Gives source.now result cursor.new (from source.now (create_table) cursor.old) }
 {
-    let (maybe, rest) = read_if_not_exists(rest)?;
-    let (name, rest) = read_name(alloc, rest)?;
-    let rest = skip(rest, TokenKind::LeftParen)?;
-    let ((columns, rules), rest) = read_parts(alloc, rest)?;
-    let rest = skip(rest, TokenKind::RightParen)?;
-    let rest = skip_word(rest, Keyword::Strict)?;
-    let statement = Stmt::CreateTable {
+    expect_word(source, cursor, Keyword::Table)?;
+    let maybe = read_if_not_exists(source, cursor)?;
+    let name = read_name(alloc, source, cursor)?;
+    expect(source, cursor, TokenKind::LeftParen)?;
+    let (columns, rules) = read_parts(alloc, source, cursor)?;
+    expect(source, cursor, TokenKind::RightParen)?;
+    expect_word(source, cursor, Keyword::Strict)?;
+    Ok(Stmt::CreateTable {
         maybe,
         name,
         columns,
         rules,
-    };
-    Ok((statement, rest))
+    })
 }
 
-// What stands behind INDEX.
+// INDEX and what follows it.
 fn read_create_index(
     alloc: Global,
-    rest: Rest<'_>,
+    source: &Source<'_>,
+    cursor: &mut Cursor,
     unique: bool,
-) -> Result<(Stmt, Rest<'_>), Stop<'_>>
-    ensures { Gives result (read_of (create_index unique) limits rest.entry) }
+) -> Result<Stmt, Stop>
+    ensures { Gives source.now result cursor.new (from source.now (create_index unique) cursor.old) }
 {
-    let (maybe, rest) = read_if_not_exists(rest)?;
-    let (name, rest) = read_name(alloc, rest)?;
-    let rest = skip_word(rest, Keyword::On)?;
-    let (table, rest) = read_name(alloc, rest)?;
-    let (columns, rest) = read_names(alloc, rest)?;
-    let statement = Stmt::CreateIndex {
+    expect_word(source, cursor, Keyword::Index)?;
+    let maybe = read_if_not_exists(source, cursor)?;
+    let name = read_name(alloc, source, cursor)?;
+    expect_word(source, cursor, Keyword::On)?;
+    let table = read_name(alloc, source, cursor)?;
+    let columns = read_names(alloc, source, cursor)?;
+    Ok(Stmt::CreateIndex {
         unique,
         maybe,
         name,
         table,
         columns,
-    };
-    Ok((statement, rest))
+    })
 }
 
-// IF NOT EXISTS or nothing: whether it stands.
-fn read_if_not_exists(rest: Rest<'_>) -> Result<(bool, Rest<'_>), Stop<'_>>
-    ensures { Gives result (read_of if_not_exists_flag limits rest.entry) }
+// IF NOT EXISTS or nothing: whether it is there.
+fn read_if_not_exists(source: &Source<'_>, cursor: &mut Cursor) -> Result<bool, Stop>
+    ensures { Gives source.now result cursor.new (from source.now (if_not_exists) cursor.old) }
 {
-    if !begins_word(rest, Keyword::If) {
-        return Ok((false, rest));
+    if !accept_word(source, cursor, Keyword::If) {
+        return Ok(false);
     }
-    let rest = skip_word(behind_first(rest), Keyword::Not)?;
-    Ok((true, skip_word(rest, Keyword::Exists)?))
+    expect_word(source, cursor, Keyword::Not)?;
+    expect_word(source, cursor, Keyword::Exists)?;
+    Ok(true)
 }
 
-/// What stands behind DROP.
-pub fn read_drop(alloc: Global, rest: Rest<'_>) -> Result<(Stmt, Rest<'_>), Stop<'_>>
-    ensures { Gives result (read_of drop_statement limits rest.entry) }
+/// DROP.
+pub fn read_drop(alloc: Global, source: &Source<'_>, cursor: &mut Cursor) -> Result<Stmt, Stop>
+    ensures { Gives source.now result cursor.new (from source.now (drop_statement) cursor.old) }
 {
-    if begins_word(rest, Keyword::Table) {
-        let (maybe, rest) = read_if_exists(behind_first(rest))?;
-        let (name, rest) = read_name(alloc, rest)?;
-        return Ok((Stmt::DropTable { maybe, name }, rest));
+    expect_word(source, cursor, Keyword::Drop)?;
+    if accept_word(source, cursor, Keyword::Table) {
+        let maybe = read_if_exists(source, cursor)?;
+        let name = read_name(alloc, source, cursor)?;
+        return Ok(Stmt::DropTable { maybe, name });
     }
-    let rest = skip_word(rest, Keyword::Index)?;
-    let (maybe, rest) = read_if_exists(rest)?;
-    let (name, rest) = read_name(alloc, rest)?;
-    Ok((Stmt::DropIndex { maybe, name }, rest))
+    expect_word(source, cursor, Keyword::Index)?;
+    let maybe = read_if_exists(source, cursor)?;
+    let name = read_name(alloc, source, cursor)?;
+    Ok(Stmt::DropIndex { maybe, name })
 }
 
-// IF EXISTS or nothing: whether it stands.
-fn read_if_exists(rest: Rest<'_>) -> Result<(bool, Rest<'_>), Stop<'_>>
-    ensures { Gives result (read_of if_exists_flag limits rest.entry) }
+// IF EXISTS or nothing: whether it is there.
+fn read_if_exists(source: &Source<'_>, cursor: &mut Cursor) -> Result<bool, Stop>
+    ensures { Gives source.now result cursor.new (from source.now (if_exists) cursor.old) }
 {
-    if !begins_word(rest, Keyword::If) {
-        return Ok((false, rest));
+    if !accept_word(source, cursor, Keyword::If) {
+        return Ok(false);
     }
-    Ok((true, skip_word(behind_first(rest), Keyword::Exists)?))
+    expect_word(source, cursor, Keyword::Exists)?;
+    Ok(true)
 }

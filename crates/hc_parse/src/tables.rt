@@ -1,136 +1,147 @@
 // The tables of FROM.
-ghost use Rattle.std.specs.Prelude.{None, if◌then◌else◌};
-ghost use Rattle.hc_parse.specs.Limits.{limits};
-ghost use Rattle.hc_parse.specs.Coded.{Gives, read_of};
-ghost use Rattle.hc_parse.specs.Readers.{made, nothing, both};
-ghost use Rattle.hc_parse.specs.ReadingQueries.{clause, joined_source, joint, no_table, table_within, tables, from};
+ghost use Rattle.std.specs.Prelude.{◌≡◌, [], None, false, if◌then◌else◌};
+ghost use Rattle.hc_grammar.specs.Grammar.{Choice, Made, Nothing, One};
+ghost use Rattle.hc_grammar.specs.First.{first};
+ghost use Rattle.hc_grammar.specs.Kinds.{among, head_is};
+ghost use Rattle.hc_grammar.specs.Marks.{Table};
+ghost use Rattle.hc_grammar.specs.Queries.{join, joined, source as table_source, tables};
+ghost use Rattle.hc_grammar.specs.Terminals.{Name};
+ghost use Rattle.hc_parse.specs.Coded.{ChargesTable, Gives, from};
+ghost use Rattle.hc_parse.specs.Seen.{left};
 
-use crate::kinds::{begins, begins_any};
-use crate::names::{read_alias, read_name};
-use crate::operands::begins_name;
+use crate::cursor::{
+    Cursor, accept, accept_word, advance, begins, begins_word, expect_word, next_piece,
+};
+use crate::lexeme::name_of;
+use crate::list::{finished, first_of};
+use crate::names::read_alias;
 use crate::parts::read_clause;
-use crate::rest::{Rest, behind_first};
-use crate::skips::{begins_word, skip_word};
-use crate::stop::{Reason, Stop, unexpected};
-use hc_ast::{Expr, FromTable};
+use crate::source::Source;
+use crate::stop::Stop;
+use hc_ast::FromTable;
 use hc_lex::{Keyword, TokenKind};
+use hc_value::Str;
 use sqlite_items::Items;
 use std::alloc::Global;
-
-/// How many tables FROM may have.
-const TABLES: usize = 8;
-
-/// What a table behind another begins with.
-const JOINTS: [TokenKind; 4] = [
-    TokenKind::Comma,
-    TokenKind::Keyword(Keyword::Join),
-    TokenKind::Keyword(Keyword::Inner),
-    TokenKind::Keyword(Keyword::Cross),
-];
 
 /// FROM with its tables, or nothing where it isn't needed.
 pub fn read_from(
     alloc: Global,
-    rest: Rest<'_>,
+    source: &Source<'_>,
+    cursor: &mut Cursor,
     is_needed: bool,
-) -> Result<(Items<FromTable>, Rest<'_>), Stop<'_>>
-    ensures { Gives result (read_of (from is_needed) limits rest.entry) }
+) -> Result<Items<FromTable>, Stop>
+    ensures { Gives source.now result cursor.new (if is_needed then from source.now tables cursor.old else from source.now (Choice tables (Nothing [])) cursor.old) }
 {
-    if begins_word(rest, Keyword::From) {
-        return read_tables(alloc, behind_first(rest));
+    if begins_word(source, cursor, Keyword::From) || is_needed {
+        return read_tables(alloc, source, cursor);
     }
-    if is_needed {
-        return unexpected(rest);
-    }
-    Ok((Items::new(alloc), rest))
+    Ok(Items::new(alloc))
 }
 
-fn read_tables(alloc: Global, rest: Rest<'_>) -> Result<(Items<FromTable>, Rest<'_>), Stop<'_>>
-    ensures { Gives result (read_of tables limits rest.entry) }
-{
-    let mut tables = Items::new(alloc);
-    let (first, mut rest) = read_source(alloc, rest, false)?;
-    tables.push(first)?;
-    // Each joint is a token at least.
-    'turns: for _ in 0..rest.pieces.len() {
-        if !begins_any(rest.pieces, &JOINTS) {
-            break;
-        }
-        let (table, behind) = read_next(alloc, rest, tables.len())?;
-        tables.push(table)?;
-        rest = behind;
-    }
-    Ok((tables, rest))
-}
-
-// A table behind so many, with what joins it to them.
-fn read_next(alloc: Global, rest: Rest<'_>, count: usize) -> Result<(FromTable, Rest<'_>), Stop<'_>>
-    ensures { Gives result (read_of (made (λ x. x.1) (both joint (table_within count))) limits rest.entry) }
-{
-    let (joined, rest) = read_joint(rest)?;
-    if count >= TABLES {
-        return Err(no_table(rest));
-    }
-    read_source(alloc, rest, joined)
-}
-
-// Where there is no room for a table.
-fn no_table(rest: Rest<'_>) -> Stop<'_>
-    ensures { Gives (Err result) (read_of no_table limits rest.entry) }
-{
-    if begins_name(rest) {
-        Stop::At(Reason::NoTable, rest.pieces)
-    } else {
-        Stop::At(Reason::Unexpected, rest.pieces)
-    }
-}
-
-// What stands before a table behind another one: whether it is a JOIN.
-fn read_joint(rest: Rest<'_>) -> Result<(bool, Rest<'_>), Stop<'_>>
-    ensures { Gives result (read_of joint limits rest.entry) }
-{
-    if begins(rest.pieces, TokenKind::Comma) {
-        return Ok((false, behind_first(rest)));
-    }
-    let rest = if begins_word(rest, Keyword::Inner) || begins_word(rest, Keyword::Cross) {
-        behind_first(rest)
-    } else {
-        rest
-    };
-    Ok((true, skip_word(rest, Keyword::Join)?))
-}
-
-// A table, and its condition where a JOIN stands before it.
-fn read_source(
+fn read_tables(
     alloc: Global,
-    rest: Rest<'_>,
-    joined: bool,
-) -> Result<(FromTable, Rest<'_>), Stop<'_>>
-    ensures { Gives result (read_of (joined_source joined) limits rest.entry) }
+    source: &Source<'_>,
+    cursor: &mut Cursor,
+) -> Result<Items<FromTable>, Stop>
+    ensures { Gives source.now result cursor.new (from source.now tables cursor.old) }
 {
-    let (name, rest) = read_name(alloc, rest)?;
-    let (alias, rest) = read_alias(alloc, rest)?;
-    let (on, rest) = read_on(alloc, rest, joined)?;
-    let table = FromTable {
+    expect_word(source, cursor, Keyword::From)?;
+    let name = read_table_name(alloc, source, cursor)?;
+    let alias = read_alias(alloc, source, cursor)?;
+    let first = FromTable {
         name,
         alias,
-        joined,
-        on,
+        joined: false,
+        on: None,
     };
-    Ok((table, rest))
+    let mut tables = first_of(alloc, first, !begins_joint(source, cursor))?;
+    // What joins a table to those before it is a token at least.
+    'tables: for _ in cursor.at..source.tokens.len() {
+        if !begins_joint(source, cursor) {
+            break;
+        }
+        tables.push(read_next(alloc, source, cursor)?)?;
+    }
+    Ok(finished(tables))
 }
 
-// ON with its condition, where a JOIN stands before.
-fn read_on(
-    alloc: Global,
-    rest: Rest<'_>,
-    joined: bool,
-) -> Result<(Option<Expr>, Rest<'_>), Stop<'_>>
-    ensures { Gives result (read_of (if joined then clause (TokenKind.Keyword Keyword.On) else nothing None) limits rest.entry) }
+// Whether what joins a table to those before it is next.
+#[tactic(auto, using(crate::proofs::Left::among_more, crate::proofs::Left::among_one))]
+fn begins_joint(source: &Source<'_>, cursor: &Cursor) -> bool
+    ensures { result ≡ head_is (among (first joined)) (left source.now cursor.now) }
 {
-    if joined {
-        read_clause(alloc, rest, Keyword::On)
-    } else {
-        Ok((None, rest))
+    begins(source, cursor, TokenKind::Comma)
+        || begins_word(source, cursor, Keyword::Inner)
+        || begins_word(source, cursor, Keyword::Cross)
+        || begins_word(source, cursor, Keyword::Join)
+}
+
+// A table after another one, with what joins it to them.
+fn read_next(alloc: Global, source: &Source<'_>, cursor: &mut Cursor) -> Result<FromTable, Stop>
+    ensures { Gives source.now result cursor.new (from source.now joined cursor.old) }
+{
+    if accept(source, cursor, TokenKind::Comma) {
+        return read_table(alloc, source, cursor);
     }
+    read_join(source, cursor)?;
+    let name = read_table_name(alloc, source, cursor)?;
+    let alias = read_alias(alloc, source, cursor)?;
+    let on = read_clause(alloc, source, cursor, Keyword::On)?;
+    Ok(FromTable {
+        name,
+        alias,
+        joined: true,
+        on,
+    })
+}
+
+// JOIN, with INNER or CROSS before it or without.
+fn read_join(source: &Source<'_>, cursor: &mut Cursor) -> Result<bool, Stop>
+    ensures { Gives source.now result cursor.new (from source.now join cursor.old) }
+{
+    if !accept_word(source, cursor, Keyword::Inner) {
+        let _ = accept_word(source, cursor, Keyword::Cross);
+    }
+    expect_word(source, cursor, Keyword::Join)?;
+    Ok(true)
+}
+
+// A table that no JOIN comes before.
+fn read_table(alloc: Global, source: &Source<'_>, cursor: &mut Cursor) -> Result<FromTable, Stop>
+    ensures { Gives source.now result cursor.new (from source.now (Made (λ table. table None) (table_source false)) cursor.old) }
+{
+    let name = read_table_name(alloc, source, cursor)?;
+    let alias = read_alias(alloc, source, cursor)?;
+    Ok(FromTable {
+        name,
+        alias,
+        joined: false,
+        on: None,
+    })
+}
+
+// The name of a table, which is taken from those that may still come.
+fn read_table_name(alloc: Global, source: &Source<'_>, cursor: &mut Cursor) -> Result<Str, Stop>
+    ensures { Gives source.now result cursor.new (from source.now (One Table Name) cursor.old) }
+{
+    let Some(piece) = next_piece(source, cursor) else {
+        return Err(Stop::Unexpected);
+    };
+    let Some(name) = name_of(alloc, &piece)? else {
+        return Err(Stop::Unexpected);
+    };
+    charge_table(cursor)?;
+    advance(source, cursor);
+    Ok(name)
+}
+
+fn charge_table(cursor: &mut Cursor) -> Result<(), Stop>
+    ensures { ChargesTable cursor.old cursor.new result }
+{
+    if cursor.tables == 0 {
+        return Err(Stop::Unexpected);
+    }
+    cursor.tables -= 1;
+    Ok(())
 }

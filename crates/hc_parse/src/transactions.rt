@@ -1,49 +1,74 @@
-// Statements on transactions.
-ghost use Rattle.hc_parse.specs.Limits.{limits};
-ghost use Rattle.hc_parse.specs.Coded.{Gives, read_of};
-ghost use Rattle.hc_parse.specs.ReadingStatements.{begin, rollback, rollback_to, savepoint_name};
+// Statements on transactions and savepoints.
+ghost use Rattle.hc_grammar.specs.Statements.{begin, commit, release, rollback, savepoint, savepoint_name};
+ghost use Rattle.hc_parse.specs.Coded.{Gives, from};
 
+use crate::cursor::{Cursor, accept_word, expect_word};
 use crate::names::read_name;
-use crate::rest::{Rest, behind_first};
-use crate::skips::{begins_word, skip_if};
+use crate::source::Source;
 use crate::stop::Stop;
 use hc_ast::Stmt;
 use hc_lex::Keyword;
 use hc_value::Str;
 use std::alloc::Global;
 
-/// What stands behind BEGIN.
-pub fn read_begin(rest: Rest<'_>) -> (Stmt, Rest<'_>)
-    ensures { Gives (Ok result) (read_of begin limits rest.entry) }
+/// BEGIN with its words.
+pub fn read_begin(source: &Source<'_>, cursor: &mut Cursor) -> Result<Stmt, Stop>
+    ensures { Gives source.now result cursor.new (from source.now begin cursor.old) }
 {
-    let rest = if begins_word(rest, Keyword::Concurrent) {
-        behind_first(rest)
-    } else {
-        skip_if(rest, Keyword::Deferred)
-    };
-    (Stmt::Begin, skip_if(rest, Keyword::Transaction))
-}
-
-/// What stands behind ROLLBACK.
-pub fn read_rollback(alloc: Global, rest: Rest<'_>) -> Result<(Stmt, Rest<'_>), Stop<'_>>
-    ensures { Gives result (read_of rollback limits rest.entry) }
-{
-    read_rollback_to(alloc, skip_if(rest, Keyword::Transaction))
-}
-
-fn read_rollback_to(alloc: Global, rest: Rest<'_>) -> Result<(Stmt, Rest<'_>), Stop<'_>>
-    ensures { Gives result (read_of rollback_to limits rest.entry) }
-{
-    if !begins_word(rest, Keyword::To) {
-        return Ok((Stmt::Rollback, rest));
+    expect_word(source, cursor, Keyword::Begin)?;
+    if !accept_word(source, cursor, Keyword::Deferred) {
+        let _ = accept_word(source, cursor, Keyword::Concurrent);
     }
-    let (name, rest) = read_savepoint_name(alloc, behind_first(rest))?;
-    Ok((Stmt::RollbackTo(name), rest))
+    let _ = accept_word(source, cursor, Keyword::Transaction);
+    Ok(Stmt::Begin)
 }
 
-/// A savepoint's name, before which SAVEPOINT may stand.
-pub fn read_savepoint_name(alloc: Global, rest: Rest<'_>) -> Result<(Str, Rest<'_>), Stop<'_>>
-    ensures { Gives result (read_of savepoint_name limits rest.entry) }
+/// COMMIT, or END.
+pub fn read_commit(source: &Source<'_>, cursor: &mut Cursor) -> Result<Stmt, Stop>
+    ensures { Gives source.now result cursor.new (from source.now commit cursor.old) }
 {
-    read_name(alloc, skip_if(rest, Keyword::Savepoint))
+    if !accept_word(source, cursor, Keyword::Commit) {
+        expect_word(source, cursor, Keyword::End)?;
+    }
+    let _ = accept_word(source, cursor, Keyword::Transaction);
+    Ok(Stmt::Commit)
+}
+
+/// ROLLBACK, or ROLLBACK TO a savepoint.
+pub fn read_rollback(alloc: Global, source: &Source<'_>, cursor: &mut Cursor) -> Result<Stmt, Stop>
+    ensures { Gives source.now result cursor.new (from source.now rollback cursor.old) }
+{
+    expect_word(source, cursor, Keyword::Rollback)?;
+    let _ = accept_word(source, cursor, Keyword::Transaction);
+    if !accept_word(source, cursor, Keyword::To) {
+        return Ok(Stmt::Rollback);
+    }
+    let name = read_savepoint_name(alloc, source, cursor)?;
+    Ok(Stmt::RollbackTo(name))
+}
+
+/// SAVEPOINT.
+pub fn read_savepoint(alloc: Global, source: &Source<'_>, cursor: &mut Cursor) -> Result<Stmt, Stop>
+    ensures { Gives source.now result cursor.new (from source.now savepoint cursor.old) }
+{
+    expect_word(source, cursor, Keyword::Savepoint)?;
+    let name = read_name(alloc, source, cursor)?;
+    Ok(Stmt::Savepoint(name))
+}
+
+/// RELEASE.
+pub fn read_release(alloc: Global, source: &Source<'_>, cursor: &mut Cursor) -> Result<Stmt, Stop>
+    ensures { Gives source.now result cursor.new (from source.now release cursor.old) }
+{
+    expect_word(source, cursor, Keyword::Release)?;
+    let name = read_savepoint_name(alloc, source, cursor)?;
+    Ok(Stmt::Release(name))
+}
+
+// A savepoint's name, before which SAVEPOINT may come.
+fn read_savepoint_name(alloc: Global, source: &Source<'_>, cursor: &mut Cursor) -> Result<Str, Stop>
+    ensures { Gives source.now result cursor.new (from source.now savepoint_name cursor.old) }
+{
+    let _ = accept_word(source, cursor, Keyword::Savepoint);
+    read_name(alloc, source, cursor)
 }

@@ -116,9 +116,9 @@ fn calls_are_printed(rt: HostRuntime) -> Result<(), Fail> {
     let alloc = rt.alloc();
     let count = call_all(name(alloc, "count"));
     is_printed(&rt, alloc, asks(alloc, count), "SELECT \"count\" ( * )")?;
-    let abs = call(name(alloc, "abs"), one(alloc, number(1)));
+    let abs = call(alloc, name(alloc, "abs"), one(alloc, number(1)));
     is_printed(&rt, alloc, asks(alloc, abs), "SELECT \"abs\" ( 1 )")?;
-    let max = call(name(alloc, "max"), two(alloc, number(1), null()));
+    let max = call(alloc, name(alloc, "max"), two(alloc, number(1), null()));
     is_printed(&rt, alloc, asks(alloc, max), "SELECT \"max\" ( 1 , NULL )")
 }
 

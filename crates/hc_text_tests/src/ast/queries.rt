@@ -8,7 +8,7 @@ fn items_are_printed(rt: HostRuntime) -> Result<(), Fail> {
     let alloc = rt.alloc();
     let all = query(alloc, one(alloc, Ok(Item::All)));
     is_printed(&rt, alloc, selects(distinct(all)), "SELECT DISTINCT *")?;
-    let named = item_as(number(1), name(alloc, "a"));
+    let named = item_as(alloc, number(1), name(alloc, "a"));
     let both = query(alloc, two(alloc, all_of(name(alloc, "t")), named));
     is_printed(&rt, alloc, selects(both), "SELECT \"t\" . * , 1 AS \"a\"")
 }
@@ -16,7 +16,7 @@ fn items_are_printed(rt: HostRuntime) -> Result<(), Fail> {
 #[test]
 fn tables_are_printed(rt: HostRuntime) -> Result<(), Fail> {
     let alloc = rt.alloc();
-    let first = table_as(name(alloc, "t"), name(alloc, "A"));
+    let first = table_as(alloc, name(alloc, "t"), name(alloc, "A"));
     let tables = two(alloc, first, table(name(alloc, "u")));
     let crossed = from(query(alloc, one(alloc, item(number(1)))), tables);
     is_printed(
@@ -40,7 +40,7 @@ fn tables_are_printed(rt: HostRuntime) -> Result<(), Fail> {
 fn a_join_is_printed(rt: HostRuntime) -> Result<(), Fail> {
     let alloc = rt.alloc();
     let second = on(
-        joined(table_as(name(alloc, "u"), name(alloc, "B"))),
+        joined(table_as(alloc, name(alloc, "u"), name(alloc, "B"))),
         number(2),
     );
     let tables = two(alloc, table(name(alloc, "t")), second);

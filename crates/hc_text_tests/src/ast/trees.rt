@@ -67,8 +67,12 @@ pub fn column(alloc: Global, text: &str) -> Made<Expr> {
 }
 
 pub fn column_of(alloc: Global, table: &str, column: &str) -> Made<Expr> {
-    let (table, column) = both(some(name(alloc, table)), name(alloc, column))?;
+    let (table, column) = both(some(in_box(alloc, name(alloc, table))), name(alloc, column))?;
     Ok(Expr::Name { table, column })
+}
+
+fn in_box<T: Drop>(alloc: Global, part: Made<T>) -> Made<Boxed<T>> {
+    Boxed::new(alloc, part?)
 }
 
 fn boxed(alloc: Global, operand: Made<Expr>) -> Made<Boxed<Expr>> {
@@ -126,8 +130,8 @@ pub fn between(
     })
 }
 
-pub fn call(name: Made<Str>, args: Made<Items<Expr>>) -> Made<Expr> {
-    let (name, args) = both(name, args)?;
+pub fn call(alloc: Global, name: Made<Str>, args: Made<Items<Expr>>) -> Made<Expr> {
+    let (name, args) = both(in_box(alloc, name), args)?;
     Ok(Expr::Call { name, args })
 }
 
@@ -142,8 +146,8 @@ pub fn item(value: Made<Expr>) -> Made<Item> {
     })
 }
 
-pub fn item_as(value: Made<Expr>, alias: Made<Str>) -> Made<Item> {
-    let (value, alias) = both(value, some(alias))?;
+pub fn item_as(alloc: Global, value: Made<Expr>, alias: Made<Str>) -> Made<Item> {
+    let (value, alias) = both(value, some(in_box(alloc, alias)))?;
     Ok(Item::One { value, alias })
 }
 
@@ -215,7 +219,7 @@ pub fn term(value: Made<Expr>, desc: bool) -> Made<Term> {
     })
 }
 
-// A table behind a comma, or the first.
+// A table after a comma, or the first.
 pub fn table(name: Made<Str>) -> Made<FromTable> {
     Ok(FromTable {
         name: name?,
@@ -225,8 +229,8 @@ pub fn table(name: Made<Str>) -> Made<FromTable> {
     })
 }
 
-pub fn table_as(name: Made<Str>, alias: Made<Str>) -> Made<FromTable> {
-    let (table, alias) = both(table(name), some(alias))?;
+pub fn table_as(alloc: Global, name: Made<Str>, alias: Made<Str>) -> Made<FromTable> {
+    let (table, alias) = both(table(name), some(in_box(alloc, alias)))?;
     Ok(FromTable { alias, ..table })
 }
 

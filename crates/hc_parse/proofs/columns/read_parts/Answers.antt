@@ -1,19 +1,26 @@
-use Rattle.std.proofs.Common.{◌∙◌, rules, sym}
-use Rattle.hc_lex.specs.declared.token.TokenKind.TheVariants as kind
-use Rattle.hc_parse.specs.Limits.{limits}
-use Rattle.hc_parse.specs.ReadingStatements.{part_behind, parts}
-use Rattle.hc_parse.specs.Coded.{Stops, read_of}
-use Rattle.hc_parse.proofs.CodeLists.{joined_on, joined_stop}
+use Rattle.std.proofs.Common.{◌≡◌, ◌∙◌, refl, rules, sym, Err}
+use Rattle.hc_grammar.specs.Statements.{Parts, parts}
+use Rattle.hc_parse.specs.Coded.{Gives, from}
+use Rattle.hc_parse.proofs.TableParts.{parts_on, parts_halt, parts_end}
+use Rattle.hc_parse.proofs.Gathers.{gathers_all}
+use Rattle.hc_parse.proofs.Lists.{same_answer}
 use Rattle.hc_parse.proofs.columns.read_parts.Goals as goal
+use Rattle.hc_parse.proofs.columns.read_parts.Goals.{else-parts-test, then-parts-test+then-not-accept}
 
-pub turns-preserved : goal.turns-preserved
-turns-preserved c =
-    joined_on kind.Comma (λ before. part_behind before.1) c.turns.invariant c.turns-test.true (sym c.begins.ensures ∙ c.if-not-begins.false) c.behind_first.ensures.operators
-    c.behind_first.ensures.pieces c.in_ok-parts.ensures
+pub parts-preserved : goal.parts-preserved
+parts-preserved c =
+    parts_on c.args.source.now c.parts.cursor c.accept.new.cursor c.read_part.new.cursor c.parts.invariant c.parts-test.true c.if-not-accept.ensures c.in_ok-parts.ensures
 
 pub returns-in_err-parts : goal.returns-in_err-parts
 returns-in_err-parts c =
-    let s : Stops c.in_err-parts.field-0.0 (read_of parts limits c.args.rest) =
-    joined_stop kind.Comma (λ before. part_behind before.1) _ c.turns.invariant c.turns-test.true (sym c.begins.ensures ∙ c.if-not-begins.false) c.behind_first.ensures.operators
-    c.behind_first.ensures.pieces c.in_err-parts.ensures in
+    let s : Gives {A = Parts} c.args.source.now (Err c.in_err-parts.field-0.0) c.read_part.new.cursor (from c.args.source.now parts c.args.cursor.now) =
+    parts_halt c.args.source.now c.parts.cursor c.accept.new.cursor c.read_part.new.cursor c.in_err-parts.field-0.0
+    c.parts.invariant c.parts-test.true c.if-not-accept.ensures c.in_err-parts.ensures in
     search rules
+
+pub returns : goal.returns
+returns c = elim c.parts-test.branch [
+  | else-parts-test w ↦ same_answer c.args.source.now c.parts.cursor c.parts-test.cursor (gathers_all c.parts.invariant w.parts-test.false) refl w.cursor-is
+  | then-parts-test+then-not-accept w ↦ same_answer c.args.source.now w.accept.new.cursor c.parts-test.cursor
+      (parts_end c.args.source.now c.parts.cursor w.accept.new.cursor c.parts.invariant w.if-not-accept.ensures) refl w.cursor-is
+]

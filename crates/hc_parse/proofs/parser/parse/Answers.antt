@@ -1,4 +1,4 @@
-use Rattle.hc_parse.proofs.ParserAnswers.{only_statement, only_fault}
+use Rattle.hc_parse.proofs.Answered.{only_statement, only_fault}
 use Rattle.hc_parse.proofs.parser.parse.Goals as goal
 
 pub returns-clause-only_statement : goal.returns-clause-only_statement

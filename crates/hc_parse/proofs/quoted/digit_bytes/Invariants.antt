@@ -1,5 +1,5 @@
 use Rattle.std.proofs.Common.{◌≡◌, ◌++◌, true, length}
-use Rattle.hc_parse.specs.Literals.{also, digit_bytes}
+use Rattle.hc_grammar.specs.Terminals.{also, digit_bytes}
 use Rattle.hc_parse.specs.Pieces.{are_hex_pairs}
 use Rattle.hc_parse.proofs.quoted.digit_bytes.Given as goal
 

@@ -1,5 +1,5 @@
 use Rattle.std.proofs.Common.{◌≡◌, ◌++◌, length}
-use Rattle.hc_parse.specs.Literals.{also, undoubled}
+use Rattle.hc_grammar.specs.Terminals.{also, undoubled}
 use Rattle.hc_parse.proofs.quoted.undoubled.Given as goal
 
 abbrev pub invariant-bytes : goal.invariant-bytes

@@ -1,6 +1,6 @@
 use Rattle.std.proofs.Common.{◌∙◌, sym, ap}
-use Rattle.hc_parse.specs.Literals.{also, unquoted}
-use Rattle.hc_parse.proofs.Quotes.{unquoted_utf8}
+use Rattle.hc_grammar.specs.Terminals.{also, unquoted}
+use Rattle.hc_parse.proofs.Texts.Quotes.{unquoted_utf8}
 use Rattle.hc_parse.proofs.quoted.unquoted.Goals as goal
 
 pub from_utf8_unchecked-inner-requires : goal.from_utf8_unchecked-inner-requires

@@ -1,0 +1,5 @@
+//! Tests of the page engine. It has no code of its own, and nothing stands on it.
+#![tactic(auto)]
+
+mod by_hand;
+mod room;

@@ -1,0 +1,17 @@
+pub mod Apart
+pub mod Blobs
+pub mod Chains
+pub mod Creates
+pub mod Expressions
+pub mod Given
+pub mod Numbers
+pub mod Operators
+pub mod Plain
+pub mod Queries
+pub mod Slices
+pub mod Statements
+pub mod Tests
+pub mod Trees
+pub mod Whole
+pub mod Words
+pub mod Written

@@ -1,0 +1,9 @@
+pub mod Begins
+pub mod Clear
+pub mod Follows
+pub mod Limited
+pub mod Marks
+pub mod Reaches
+pub mod Some
+pub mod Sound
+pub mod Spending

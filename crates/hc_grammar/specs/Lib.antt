@@ -1,0 +1,17 @@
+pub mod Climbing
+pub mod Expressions
+pub mod Faults
+pub mod First
+pub mod Grammar
+pub mod Has
+pub mod Kinds
+pub mod Laws
+pub mod Lexemes
+pub mod Marks
+pub mod Phrases
+pub mod Places
+pub mod Queries
+pub mod Reads
+pub mod Runs
+pub mod Statements
+pub mod Terminals

@@ -1,0 +1,17 @@
+pub mod Beginning
+pub mod Changed
+pub mod Directory
+pub mod Drafting
+pub mod Entries
+pub mod Finishing
+pub mod Freed
+pub mod Halving
+pub mod HeadWords
+pub mod Keys
+pub mod OneContent
+pub mod Ordered
+pub mod Putting
+pub mod Ranges
+pub mod Sizes
+pub mod Versions
+pub mod Written

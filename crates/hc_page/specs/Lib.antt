@@ -1,0 +1,6 @@
+pub mod Drafts
+pub mod Entries
+pub mod Finding
+pub mod Laws
+pub mod Puts
+pub mod Reading
