@@ -10,4 +10,4 @@ fi
 log=$(mktemp) || exit 1
 trap 'rm -f "$log"' EXIT
 rt run >/dev/null 2>"$log" </dev/null || { cat "$log" >&2; exit 1; }
-exec ./out/hc_bench 2>&1 >/dev/null </dev/null
+./out/hc_bench 2>&1 >/dev/null </dev/null | grep -e 'added in' -e covered

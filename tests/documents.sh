@@ -216,6 +216,9 @@ for file in documents:
         row = prose[prose.rfind("\n", 0, found.start()) + 1 : found.start()]
         paragraph = prose[prose.rfind("\n\n", 0, found.start()) + 1 : prose.find("\n\n", found.end())]
         counts["names"] += 1
+        # the examples of docs/SQL.md are SQL; tests/expressions.sh tries those that have a value
+        if file == "docs/SQL.md" and not re.fullmatch(r"hc_\w+|\w+/[\w.]+", span):
+            continue
         # an edit that went is no file any more
         if file == "docs/TESTING.md" and heading == "## Edits that went" and row.startswith("|") and row.count("|") >= 2:
             continue

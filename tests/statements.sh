@@ -1,5 +1,5 @@
 #!/usr/bin/env bash
-# Statements against SQLite's own parser. The tests of hc_parse (in hc_text_tests) have texts with the statement or the fault that each is.
+# Statements against SQLite's own parser. The tests of hc_parse (in hc_syntax_tests) have texts with the statement or the fault that each is.
 # SQLite has to accept what is accepted there, but for a stated list, and to refuse what is refused, but for
 # another. Names that SQLite does not know are no matter here: its parser comes before them. Expressions and their
 # canonical texts, in which all grouping is written out, have to be the same program to SQLite.
@@ -11,7 +11,7 @@ if ! python3 -c 'import sqlite3' 2>/dev/null; then
     exit 0
 fi
 
-python3 - crates/hc_text_tests/src/parse/{expressions,statements,faults}.rt <<'PYTHON'
+python3 - crates/hc_syntax_tests/src/parse/{expressions,statements,faults}.rt <<'PYTHON'
 import ast
 import re
 import sqlite3

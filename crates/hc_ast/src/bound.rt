@@ -15,25 +15,25 @@ pub enum Bound {
     Minus(Boxed<Bound>),
     /// A plus with one operand.
     Plus(Boxed<Bound>),
-    /// An operator between two operands.
+    /// An operator between two bound operands.
     Binary {
         op: BinaryOp,
         left: Boxed<Bound>,
         right: Boxed<Bound>,
     },
-    /// `IN`
+    /// `IN`, of bound expressions.
     OneOf {
         not: bool,
         left: Boxed<Bound>,
         list: Items<Bound>,
     },
-    /// `LIKE`
+    /// `LIKE`, with both sides bound.
     Like {
         not: bool,
         left: Boxed<Bound>,
         pattern: Boxed<Bound>,
     },
-    /// `BETWEEN`
+    /// `BETWEEN`, with all three operands bound.
     Between {
         not: bool,
         left: Boxed<Bound>,

@@ -43,7 +43,7 @@ pub enum Expr {
         low: Boxed<Expr>,
         high: Boxed<Expr>,
     },
-    /// A function's call with one argument at least. Any name may stand here.
+    /// A function's call with one argument at least. It may have any name.
     Call {
         name: Boxed<Str>,
         args: Items<Expr>,

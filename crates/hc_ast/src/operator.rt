@@ -1,4 +1,4 @@
-/// An operator between two operands. All group to the left; they stand here from the loosest on.
+/// An operator between two operands. All group to the left; they are listed from the loosest on.
 #[derive(Clone, Copy, Debug, PartialEq, Eq)]
 pub enum BinaryOp {
     /// `OR`

@@ -5,7 +5,7 @@ use sqlite_items::{Boxed, Items};
 /// A query.
 #[derive(Debug, Drop)]
 pub struct Select {
-    /// Whether `DISTINCT` stands.
+    /// Whether `DISTINCT` is written.
     pub distinct: bool,
     /// What is asked for, one at least.
     pub items: Items<Item>,
@@ -46,7 +46,7 @@ pub struct FromTable {
     pub name: Str,
     /// Its alias, where it has one.
     pub alias: Option<Boxed<Str>>,
-    /// Whether `JOIN`, and no comma, stands before it. False for the first.
+    /// Whether `JOIN`, and no comma, is before it. False for the first.
     pub joined: bool,
     /// The condition of `ON`, which wants `JOIN`.
     pub on: Option<Expr>,

@@ -24,14 +24,14 @@ pub enum Stmt {
         table: Str,
         filter: Option<Expr>,
     },
-    /// A new table. `maybe` says that `IF NOT EXISTS` stands.
+    /// A new table. `maybe` says that `IF NOT EXISTS` is written.
     CreateTable {
         maybe: bool,
         name: Str,
         columns: Items<ColumnDef>,
         rules: Items<KeyRule>,
     },
-    /// A new index. `maybe` says that `IF NOT EXISTS` stands.
+    /// A new index. `maybe` says that `IF NOT EXISTS` is written.
     CreateIndex {
         unique: bool,
         maybe: bool,
@@ -39,12 +39,12 @@ pub enum Stmt {
         table: Str,
         columns: Items<Str>,
     },
-    /// `maybe` says that `IF EXISTS` stands.
+    /// `maybe` says that `IF EXISTS` is written.
     DropTable {
         maybe: bool,
         name: Str,
     },
-    /// `maybe` says that `IF EXISTS` stands.
+    /// `maybe` says that `IF EXISTS` is written.
     DropIndex {
         maybe: bool,
         name: Str,

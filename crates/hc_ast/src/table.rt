@@ -8,7 +8,7 @@ pub struct ColumnDef {
     pub name: Str,
     /// The class of its values: `Int`, `Text` or `Blob`.
     pub class: Class,
-    /// Its rules, as they are written, also where one stands twice.
+    /// Its rules, as they are written, also where one is written twice.
     pub rules: Items<ColumnRule>,
 }
 

@@ -3,7 +3,7 @@ use Rattle.std.proofs.Common.{◌≡◌, ◌≢◌, ◌⊎◌, ◌^◌, inl, inr
 use Rattle.std.proofs.lemmas.Bool.{cases_eq, cases_lt}
 use Rattle.hc_range.specs.declared.range.Range.{Range}
 use Rattle.hc_range.specs.Ranges.{Includes}
-use Rattle.hc_core.specs.Lookup.{Among}
+use Rattle.hc_base.specs.Lookup.{Among}
 use Rattle.hc_core.specs.Account.{Txn, HoldsKey, IsIdle, PartRead, HasWritten, HasWrittenAs, WhenOpen, part_of}
 use Rattle.hc_core.specs.Commits.{cells_with, holds_tombstone, is_in, least_with}
 use Rattle.hc_core.specs.Machine.{Answers, IsAnswer, IsCheckAnswer, IsDecideAnswer, IsEnabled, IsForgettable, IsPutAnswer, Machine, Names, next_number, txns_of}

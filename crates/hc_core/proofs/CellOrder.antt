@@ -3,7 +3,7 @@ use Rattle.std.proofs.Common.{◌≡◌, ◌≢◌, ◌∙◌, ◌⊎◌, ◌↔
 use Rattle.std.proofs.lemmas.Bool.{true≢false, cases_Bool, cond_both}
 use Rattle.std.proofs.lemmas.Slice.Eq.{bytes_eq-Decides}
 use Rattle.hc_range.specs.Order.{is_below}
-use Rattle.hc_core.specs.Lookup.{Among}
+use Rattle.hc_base.specs.Lookup.{Among}
 use Rattle.hc_core.specs.Versions.{IsBelowEach, AreAscending}
 use Rattle.hc_core.specs.Commits.{set_here, set_cell, count_below, take_out_at, put_in_at}
 use Rattle.hc_core.specs.declared.cells.Cell.{Cell}

@@ -1,12 +1,12 @@
 -- The newest transaction of a connection changes, and what others rest on stays: all is sound as before.
 use Rattle.std.proofs.Common.{◌≡◌, ◌≢◌, ◌∙◌, ⊎_elim, refl, sym, subst, ℕ, ◌+◌, ◌<◌, ◌≤◌, List, ◌∷◌, Option, arith}
 use Rattle.std.proofs.lemmas.Bool.{cases_eq}
-use Rattle.hc_core.specs.Lookup.{Among, but}
+use Rattle.hc_base.specs.Lookup.{Among, but}
 use Rattle.hc_core.specs.Account.{IsAskedFor, IsPart, Txn, Refusal, HoldsKey, HasWritten, HasWrittenAs}
 use Rattle.hc_core.specs.Versions.{PutAt}
 use Rattle.hc_core.specs.Sound.{TxnIsSound, NamesWriter, ComesAfterEach, AreInOrder, AreSound}
 use Rattle.hc_core.specs.declared.cells.Write.{Write}
-use Rattle.hc_core.proofs.Lookups.{each_but, new_here, rest_here, others_here, old_there, each_old, each_either}
+use Rattle.hc_base.proofs.Lookups.{each_but, new_here, rest_here, others_here, old_there, each_old, each_either}
 use Rattle.hc_core.proofs.Agreeing.{AgreeUpto, sound-agree}
 
 -- what others rest on: its place, what it put where it is decided, and who it is where it has put a key

@@ -1,11 +1,11 @@
 -- The log has no more ids than were drawn, and fewer where a transaction that drew an id is undecided.
 use Rattle.std.proofs.Common.{◌≡◌, ◌≢◌, sym, subst, ℕ, ◌+◌, ◌-◌, ◌<◌, ◌≤◌, zero, suc, min, length, arith}
 use Rattle.std.specs.Prelude.{slice_index}
-use Rattle.hc_core.specs.Lookup.{Among, but}
+use Rattle.hc_base.specs.Lookup.{Among, but}
 use Rattle.hc_core.specs.Account.{Txn}
 use Rattle.hc_core.specs.Machine.{Machine, txns_of}
 use Rattle.hc_core.specs.Sound.{IsSound}
-use Rattle.hc_core.proofs.Lookups.{each_but}
+use Rattle.hc_base.proofs.Lookups.{each_but}
 use Rattle.hc_core.proofs.Ordered.{placed_drew, distinct_with}
 
 -- numbers above one moved down by one

@@ -1,6 +1,6 @@
 -- Elements of lists that grow at the end or are filtered.
 use Rattle.std.proofs.Common.{◌≡◌, Bool, true, false, List, [], ◌∷◌, ◌++◌, ◌⊎◌, ◌↔◌, refl, sym, ◌∙◌, ap, inl, inr, filter, cond}
-use Rattle.hc_core.specs.Lookup.{Among}
+use Rattle.hc_base.specs.Lookup.{Among}
 
 module _ {A : Type 0} where
   -- an element of a longer list is the new one or an older one

@@ -4,12 +4,12 @@ use Rattle.std.specs.Prelude.{slice_index}
 use Rattle.std.proofs.lemmas.Bool.{cases_eq, cases_lt}
 use Rattle.std.proofs.lemmas.List.{get_or-set_same, get_or-set_other, get_or_past, get_or-replicate, length-replicate, get_or_append_left, length-append}
 use Rattle.std.proofs.Math.Seq.{get_or-append_seam}
-use Rattle.hc_core.specs.Lookup.{Among, but}
+use Rattle.hc_base.specs.Lookup.{Among, but}
 use Rattle.hc_core.specs.Account.{AreOf, IsOf, Txn, WhenOpen, after_entry, txns}
 use Rattle.hc_core.specs.Machine.{Machine, start, account_of, txns_of, with_entry}
 use Rattle.hc_core.specs.Sound.{AreSound, IsSound}
 use Rattle.hc_core.specs.declared.account.Entry.{Entry}
-use Rattle.hc_core.proofs.Lookups.{but-is, each_but, each_either, each_old, new_here, others_here, rest_here}
+use Rattle.hc_base.proofs.Lookups.{but-is, each_but, each_either, each_old, new_here, others_here, rest_here}
 
 -- an open transaction: the newest of its connection
 pub record Open (ts : List Txn) (P : Txn → Type 0) : Type 0 where

@@ -1,7 +1,7 @@
 -- Facts that can be decided: each holds, or it does not.
 use Rattle.std.proofs.Common.{◌≡◌, ◌⊎◌, inl, inr, ⊎_elim, refl, sym, ◌∙◌, subst, ℕ, zero, suc, ◌<◌, Bool, true, false, List, [], ◌∷◌, arith}
 use Rattle.std.proofs.lemmas.Bool.{true≢false, cases_Bool, cases_eq, cases_lt}
-use Rattle.hc_core.specs.Lookup.{Among}
+use Rattle.hc_base.specs.Lookup.{Among}
 use Rattle.hc_core.specs.Account.{Txn, HoldsKey, WhenOpen}
 use Rattle.hc_core.specs.Running.{holds_key}
 use Rattle.hc_core.specs.declared.cells.Write.{Write}

@@ -1,7 +1,7 @@
 -- The latest version of a key is the one with which its versions begin.
 use Rattle.std.proofs.Common.{◌≡◌, ◌≢◌, ◌⊎◌, ⊎_elim, ◌<◌, ◌≤◌, refl, sym, subst, inl, inr, ℕ, List, [], ◌∷◌, arith}
 use Rattle.std.proofs.lemmas.Bool.{cases_eq}
-use Rattle.hc_core.specs.Lookup.{Among}
+use Rattle.hc_base.specs.Lookup.{Among}
 use Rattle.hc_core.specs.Account.{Txn}
 use Rattle.hc_core.specs.Versions.{AreVersions, IsLatestVersion, IsNewerThanEach}
 use Rattle.hc_core.specs.Laws.{VersionsBeginWithTheLatest}

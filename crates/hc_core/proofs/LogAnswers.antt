@@ -3,13 +3,13 @@ use Rattle.std.proofs.Common.{◌≡◌, ◌≢◌, ◌∙◌, inl, inr, ⊎_eli
 use Rattle.std.proofs.lemmas.Bool.{true≢false, cases_Bool, cases_lt}
 use Rattle.std.proofs.lemmas.List.{get_or_default, length-take}
 use Rattle.hc_range.specs.declared.range.Range.{Range}
-use Rattle.hc_core.specs.Lookup.{Among}
+use Rattle.hc_base.specs.Lookup.{Among}
 use Rattle.hc_core.specs.Account.{Txn, HasWritten, WhenOpen}
 use Rattle.hc_core.specs.Versions.{IsLatestVersion, IsInTheWay, IsBetween, IsFound}
 use Rattle.hc_core.specs.Machine.{IsForgettable, IsFree, IsUnchanged}
 use Rattle.hc_core.specs.Running.{holds_key}
 use Rattle.hc_core.specs.Sound.{AreSound, AreInOrder}
-use Rattle.hc_core.specs.Commits.{AreCommits, IsLastWith, NoneIsWith, writes_at, holds_tombstone, is_in, least_of}
+use Rattle.hc_core.specs.Commits.{IsNoneAbove, AreCommits, IsLastWith, NoneIsWith, writes_at, holds_tombstone, is_in, least_of}
 use Rattle.hc_core.specs.declared.commit.Commit.{Commit}
 use Rattle.hc_core.proofs.Ordered.{after_each}
 use Rattle.hc_core.proofs.WriteSets.{nothing_written}
@@ -152,14 +152,16 @@ module _ {size : ℕ} {log : ℕ → ℕ} {of : ℕ → List Txn} (s : AreSound 
         )
 
     module _ (key : List ℕ) (none_open : (j : ℕ) → WhenOpen (of j) (λ t. (t.place ≡ 0) × HasWritten t key) → ⊥) where
-      -- a put meets nothing where no open transaction has the key, and no entry
-      pub none_is_free : NoneIsWith key commits → (i snapshot : ℕ) → IsFree of i snapshot key
-      none_is_free none i snapshot j u there written = absurd (none_written key none j u there written (writer_placed key none_open j u there written))
-
-      -- nor where the last entry with the key is not above the snapshot
-      pub newest_is_free : (place : ℕ) → IsLastWith key commits place → (i snapshot : ℕ) → place + 1 ≤ snapshot → IsFree of i snapshot key
-      newest_is_free place last i snapshot below j u there written =
-          (inl (writer_placed key none_open j u there written), omega (arith, below_last key place last j u there written, below))
+      -- a put meets nothing where no open transaction has the key, and no entry above the snapshot
+      pub none_is_free : (i snapshot : ℕ) → IsNoneAbove snapshot key commits → IsFree of i snapshot key
+      none_is_free i snapshot none j u there written =
+          let placed = writer_placed key none_open j u there written in
+          let holds = placed_holds j u key there placed written in (
+            inl placed,
+            ⊎_elim
+                (λ (above : snapshot < u.place). absurd (true≢false (sym holds.1 ∙ none (u.place - 1) (omega (arith, above)) holds.0)))
+                (λ low. low) (cases_lt snapshot u.place),
+          )
 
       -- the last entry with a key has its first version, where no open transaction has one
       pub newest_is_first : (place : ℕ) (commit : Commit) → IsLastWith key commits place → commit ≡ get_or commits place commit

@@ -11,7 +11,7 @@ use Rattle.hc_core.specs.Sound.{AreSound}
 use Rattle.hc_core.specs.Commits.{AreCommits, HasNoTombstone, IsLastWith, IsMetAbove, IsMetAt, IsMetBetween, IsNoneAbove, NoneIsWith, is_in, least_between, least_of, writes_at}
 use Rattle.hc_core.specs.declared.commit.Commit.{Commit}
 use Rattle.hc_core.specs.declared.outcome.Met.{Met}
-use Rattle.hc_core.proofs.LogAnswers.{forgettable_last, forgettable_logged, found_is, newest_in_the_way, newest_is_free, none_found, none_is_free, writes_of_front}
+use Rattle.hc_core.proofs.LogAnswers.{forgettable_last, forgettable_logged, found_is, newest_in_the_way, none_found, none_is_free, writes_of_front}
 use Rattle.hc_core.proofs.LogEntries.{holds_from}
 use Rattle.hc_core.proofs.LogLeast.{IsLeast, IsPutBy, least_is, put_into}
 
@@ -61,9 +61,7 @@ module _ {size : ℕ} {log : ℕ → ℕ} {of : ℕ → List Txn} (s : AreSound 
 
     -- and that it meets nothing
     pub put_free : (i snapshot : ℕ) → IsNoneAbove snapshot key commits → IsFree of i snapshot key
-    put_free i snapshot none =
-        ⊎_elim (λ nowhere. none_is_free s commits are long key none_open nowhere i snapshot)
-        (λ below. newest_is_free s commits are long key none_open below.0 below.1 i snapshot below.2) none
+    put_free i snapshot none = none_is_free s commits are long key none_open i snapshot none
 
   -- a key whose last entry puts no tombstone is not forgettable
   pub no_tombstone : (key : List ℕ) → HasNoTombstone key commits → IsForgettable of key → ⊥

@@ -1,6 +1,6 @@
 -- The keys that the log puts are short where those in the write sets of transactions are.
 use Rattle.std.proofs.Common.{inl, inr, refl, ℕ, zero, suc, ◌+◌, ◌≤◌, List, [], ◌∷◌, length, take, drop}
-use Rattle.hc_core.specs.Lookup.{Among}
+use Rattle.hc_base.specs.Lookup.{Among}
 use Rattle.hc_core.specs.Account.{Txn, HoldsKey, HasWritten}
 use Rattle.hc_core.specs.Commits.{AreCommits, AreShort, AreShortWrites}
 use Rattle.hc_core.specs.declared.cells.Write.{Write}

@@ -1,10 +1,12 @@
 -- What is kept of an open transaction matches it after each change of both.
-use Rattle.std.proofs.Common.{◌≡◌, ◌≢◌, ℕ, List, [], ◌∷◌, ◌++◌, ◌⊎◌, ◌↔◌, refl, sym, subst, inl, inr, Vec, Global, not}
+use Rattle.std.proofs.Common.{◌≡◌, ◌≢◌, ℕ, List, [], ◌∷◌, ◌++◌, ◌⊎◌, ◌↔◌, refl, sym, subst, inl, inr, not, None, Some}
 use Rattle.std.specs.Str.{bytes_eq}
 use Rattle.hc_range.specs.declared.range.Range.{Range}
 use Rattle.hc_range.specs.Ranges.{InAny, InRange}
-use Rattle.hc_core.specs.Account.{Txn, PartRead, Refusal, HasRead, after_read, after_put, after_check, after_decide, after_unput, without}
+use Rattle.hc_core.specs.Account.{Txn, PartRead, Refusal, HasRead, after_read, after_put, after_check, after_decide, after_reserve, after_unput, weight_of, without}
+use Rattle.hc_core.specs.Calls.{AreShortKeys}
 use Rattle.hc_core.specs.Running.{HaveSameWrites, Matches}
+use Rattle.hc_core.specs.WriteSet.{HasAllOf, Held}
 use Rattle.hc_core.specs.declared.cells.Write.{Write}
 use Rattle.hc_core.specs.declared.cells.Part.{Part}
 use Rattle.hc_core.specs.declared.outcome.Outcome.TheVariants.{Done, Cells, Decided}
@@ -25,6 +27,7 @@ pub matches_read : (r : Running) (log : List Range) (part : Range) (found : Part
     → Matches (record r { reads = log }) (after_read part (Cells found) t)
 matches_read r log part found t grown h = record {
   id = h.id;
+  unweighed = h.unweighed;
   ord = h.ord;
   snapshot = h.snapshot;
   proposed = h.proposed;
@@ -35,6 +38,8 @@ matches_read r log part found t grown h = record {
   );
   checked = h.checked;
   writes = h.writes;
+  reserved = h.reserved;
+  short = h.short;
 }
 
 -- what is kept, with a log of checks grown by a part, matches the transaction after its check
@@ -43,16 +48,19 @@ pub matches_checked : (r : Running) (log : List Range) (part : Range) (t : Txn)
     → Matches (record r { checked = log }) (after_check part Done t)
 matches_checked r log part t grown h = record {
   id = h.id;
+  unweighed = h.unweighed;
   ord = h.ord;
   snapshot = h.snapshot;
   proposed = h.proposed;
   place = h.place;
   reads = h.reads;
-  checked = λ key. let old = h.checked key in let new = grown key in (
+  checked = λ unweighed key. let old = h.checked unweighed key in let new = grown key in (
     λ a. elim (new.0 a) [ inl x ↦ inr (old.0 x) | inr y ↦ inl y ],
     λ a. new.1 (elim a [ inl y ↦ inr y | inr x ↦ inl (old.1 x) ]),
   );
   writes = h.writes;
+  reserved = h.reserved;
+  short = h.short;
 }
 
 -- another proposal, or none, for which nothing was checked
@@ -62,21 +70,25 @@ matches_proposal r new number t is h =
     subst (λ q. Matches q (record t { proposed = number; checked = [] })) (sym is)
     (record {
       id = h.id;
+      unweighed = h.unweighed;
       ord = h.ord;
       snapshot = h.snapshot;
       proposed = refl;
       place = h.place;
       reads = h.reads;
-      checked = λ key. (λ a. a, λ a. a);
+      checked = λ unweighed key. (λ a. a, λ a. a);
       writes = h.writes;
+      reserved = h.reserved;
+      short = h.short;
     })
 
 -- other writes, and what is in the write set changed with them; what was put counts for nothing here
-matches_writes : (r : Running) (kept : Vec Write Global) (t : Txn) (write_set puts : List Write)
-    → (t.place ≡ 0 → HaveSameWrites kept.items write_set) → Matches r t
+matches_writes : (r : Running) (kept : Held) (t : Txn) (write_set puts : List Write)
+    → (t.place ≡ 0 → HaveSameWrites kept.put write_set) → HasAllOf r.writes.all kept.all → Matches r t
     → Matches (record r { writes = kept }) (record t { write_set = write_set; puts = puts })
-matches_writes r kept t write_set puts same h = record {
+matches_writes r kept t write_set puts same all h = record {
   id = h.id;
+  unweighed = h.unweighed;
   ord = h.ord;
   snapshot = h.snapshot;
   proposed = h.proposed;
@@ -84,24 +96,27 @@ matches_writes r kept t write_set puts same h = record {
   reads = h.reads;
   checked = h.checked;
   writes = same;
+  reserved = λ undecided w there. all w (h.reserved undecided w there);
+  short = h.short;
 }
 
 -- what is kept, with a write more, matches the transaction after its put
-pub matches_put : (r : Running) (kept : Vec Write Global) (w : Write) (t : Txn) → kept.items ≡ r.writes.items ++ w ∷ [] → Matches r t
+pub matches_put : (r : Running) (kept : Held) (w : Write) (t : Txn) → kept.put ≡ r.writes.put ++ w ∷ [] → HasAllOf r.writes.all kept.all → Matches r t
     → Matches (record r { writes = kept }) (after_put w.key w.rec Done t)
-matches_put r kept w t e h = matches_writes r kept t (w ∷ t.write_set) (w ∷ t.puts)
-    (λ undecided x. let old = h.writes undecided x in let push = among_push x w r.writes.items in
+matches_put r kept w t e all h = matches_writes r kept t (w ∷ t.write_set) (w ∷ t.puts)
+    (λ undecided x. let old = h.writes undecided x in let push = among_push x w r.writes.put in
     rw e (
       (λ a. elim (push.0 a) [ inl s ↦ inl s | inr b ↦ inr (old.0 b) ]),
       λ a. push.1 (elim a [ inl s ↦ inl s | inr b ↦ inr (old.1 b) ]),
     ))
-    h
+    all h
 
 -- what is kept, with a commit number, matches the transaction after its decision
-pub matches_decided : (r : Running) (kept : Vec Write Global) (number : ℕ) (t : Txn) → number ≢ 0 → Matches r t
+pub matches_decided : (r : Running) (kept : Held) (number : ℕ) (t : Txn) → number ≢ 0 → Matches r t
     → Matches (record r { writes = kept; place = number }) (after_decide (Decided (record { 0 = number })) t)
 matches_decided r kept number t some h = record {
   id = h.id;
+  unweighed = h.unweighed;
   ord = h.ord;
   snapshot = h.snapshot;
   proposed = h.proposed;
@@ -109,27 +124,27 @@ matches_decided r kept number t some h = record {
   reads = h.reads;
   checked = h.checked;
   writes = λ undecided. absurd (some undecided);
+  reserved = λ undecided. absurd (some undecided);
+  short = h.short;
 }
 
 -- what is kept, without the writes of a key, matches the transaction after the key is taken out
-pub matches_unput : (r : Running) (kept : Vec Write Global) (key : List ℕ) (t : Txn) → kept.items ≡ without key r.writes.items → Matches r t
-    → Matches (record r { writes = kept }) (after_unput key Done t)
-matches_unput r kept key t e h = matches_writes r kept t (without key t.write_set) t.puts
+pub matches_unput : (r : Running) (kept : Held) (key : List ℕ) (t : Txn) → HaveSameWrites kept.put (without key r.writes.put) → HasAllOf r.writes.all kept.all
+    → Matches r t → Matches (record r { writes = kept }) (after_unput key Done t)
+matches_unput r kept key t left all h = matches_writes r kept t (without key t.write_set) t.puts
     (λ undecided x. let old = h.writes undecided x in
-    let here = among_filter (λ (w : Write). not (bytes_eq w.key key)) x r.writes.items in
-    let there = among_filter (λ (w : Write). not (bytes_eq w.key key)) x t.write_set in
-    rw e ((λ a. there.1 (old.0 (here.0 a).0, (here.0 a).1)), λ a. here.1 (old.1 (there.0 a).0, (there.0 a).1)))
-    h
-
--- a vector with the same writes will do
-pub matches_same : (r : Running) (kept : Vec Write Global) (t : Txn) → kept.items ≡ r.writes.items → Matches r t
-    → Matches (record r { writes = kept }) t
-matches_same r kept t e h = matches_writes r kept t t.write_set t.puts (λ undecided. rw e (h.writes undecided)) h
+    let here = among_filter (λ (w : Write). not (bytes_eq w.key key)) x r.writes.put in
+    let there = among_filter (λ (w : Write). not (bytes_eq w.key key)) x t.write_set in (
+      (λ a. let b = here.0 ((left x).0 a) in there.1 (old.0 b.0, b.1)),
+      λ a. let b = there.0 a in (left x).1 (here.1 (old.1 b.0, b.1)),
+    ))
+    all h
 
 -- refusals count for nothing here
 pub matches_refused : (r : Running) (t : Txn) (refusals : List Refusal) → Matches r t → Matches r (record t { refusals = refusals })
 matches_refused r t refusals h = record {
   id = h.id;
+  unweighed = h.unweighed;
   ord = h.ord;
   snapshot = h.snapshot;
   proposed = h.proposed;
@@ -137,4 +152,39 @@ matches_refused r t refusals h = record {
   reads = h.reads;
   checked = h.checked;
   writes = h.writes;
+  reserved = h.reserved;
+  short = h.short;
+}
+
+-- nor do checks, nor what a check found unchanged, once there is room for writes
+pub matches_unkept : (r : Running) (part : Range) (t : Txn) → t.weight ≢ None → Matches r t → Matches r (after_check part Done t)
+matches_unkept r part t weighed h = record {
+  id = h.id;
+  unweighed = h.unweighed;
+  ord = h.ord;
+  snapshot = h.snapshot;
+  proposed = h.proposed;
+  place = h.place;
+  reads = h.reads;
+  checked = λ unweighed. absurd (weighed unweighed);
+  writes = h.writes;
+  reserved = h.reserved;
+  short = h.short;
+}
+
+-- room for writes, where none is put
+pub matches_room : (r : Running) (kept : Held) (writes : List Write) (t : Txn) → kept.put ≡ [] → kept.all ≡ writes → t.id ≢ 0 → t.write_set ≡ []
+    → AreShortKeys writes → Matches r t → Matches (record r { writes = kept }) (after_reserve writes t)
+matches_room r kept writes t put all drew none short h = record {
+  id = h.id;
+  unweighed = λ undrawn. absurd (drew undrawn);
+  ord = h.ord;
+  snapshot = h.snapshot;
+  proposed = h.proposed;
+  place = h.place;
+  reads = h.reads;
+  checked = λ unweighed. absurd (let e : Some (weight_of writes) ≡ None = unweighed in cc);
+  writes = λ undecided w. rw (put, none) (λ a. a, λ a. a);
+  reserved = λ undecided w there. rw all there;
+  short = short;
 }

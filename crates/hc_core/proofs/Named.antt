@@ -2,7 +2,7 @@
 use Rattle.std.proofs.Common.{◌≡◌, ◌≢◌, ⊎_elim, sym, subst, ℕ, ◌<◌, List, ◌∷◌, arith}
 use Rattle.hc_range.specs.declared.range.Range.{Range}
 use Rattle.hc_range.specs.Ranges.{InRange}
-use Rattle.hc_core.specs.Lookup.{Among}
+use Rattle.hc_base.specs.Lookup.{Among}
 use Rattle.hc_core.specs.Account.{KeyAsked, PartAsked, Txn, HoldsKey, HasWritten}
 use Rattle.hc_core.specs.Versions.{IsInTheWay, IsBetween, IsFound}
 use Rattle.hc_core.specs.Machine.{Names}

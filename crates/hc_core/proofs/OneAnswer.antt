@@ -3,7 +3,7 @@ use Rattle.std.proofs.Common.{◌≡◌, ◌∙◌, inl, inr, ⊎_elim, refl, sy
 use Rattle.std.proofs.lemmas.Bool.{true≢false}
 use Rattle.hc_range.specs.Order.{is_below}
 use Rattle.hc_range.specs.declared.range.Range.{Range}
-use Rattle.hc_core.specs.Lookup.{Among}
+use Rattle.hc_base.specs.Lookup.{Among}
 use Rattle.hc_core.specs.Account.{Txn, HasWritten, part_of, WhenOpen}
 use Rattle.hc_core.specs.Versions.{AreCellsAfter, AreAscending, IsBelowEach, IsLatestVersion, IsInTheWay, IsBetween, IsFound}
 use Rattle.hc_core.specs.Machine.{Machine, Names, txns_of, IsFree, IsAnswer, IsPutAnswer, IsCheckAnswer, IsDecideAnswer, Answers}
@@ -16,7 +16,7 @@ use Rattle.hc_core.specs.declared.outcome.Outcome.{Outcome}
 use Rattle.hc_core.specs.declared.outcome.Outcome.TheVariants.{Cells, Met}
 use Rattle.hc_range.proofs.ByteOrder.{below_irrefl, below_flip, same_from_neither}
 use Rattle.hc_core.proofs.Ordered.{one_place, newest_or_older}
-use Rattle.hc_core.proofs.Lookups.{rest_there}
+use Rattle.hc_base.proofs.Lookups.{rest_there}
 use Rattle.hc_core.proofs.WriteSets.{nothing_written}
 
 -- a key is below that of each cell after it

@@ -1,9 +1,9 @@
 -- What the order of a connection's transactions says: who has ended, what is below, and that an id is one transaction's.
 use Rattle.std.proofs.Common.{◌≡◌, ◌≢◌, ◌∙◌, inl, inr, ⊎_elim, refl, sym, ap, subst, ℕ, ◌+◌, ◌-◌, ◌<◌, List, [], ◌∷◌, arith}
-use Rattle.hc_core.specs.Lookup.{Among, but}
+use Rattle.hc_base.specs.Lookup.{Among, but}
 use Rattle.hc_core.specs.Account.{Txn}
 use Rattle.hc_core.specs.Sound.{ComesAfter, ComesAfterEach, AreInOrder, AreSound, TxnIsSound}
-use Rattle.hc_core.proofs.Lookups.{each_but}
+use Rattle.hc_base.proofs.Lookups.{each_but}
 
 -- a transaction comes after each of the list
 pub after_each : (t u : Txn) (rest : List Txn) → ComesAfterEach t rest → Among u rest → ComesAfter t u

@@ -1,7 +1,7 @@
 -- A machine is sound after every run, from a new one and over any events.
 use Rattle.std.proofs.Common.{◌≡◌, ◌≢◌, ◌⊎◌, inl, inr, ⊎_elim, refl, sym, subst, ℕ, ◌+◌, ◌-◌, ◌<◌, ◌≤◌, ◌^◌, true, List, [], ◌∷◌, ◌++◌, Option, Some, None, length, slice_index, arith}
 use Rattle.hc_range.specs.Ranges.{Includes}
-use Rattle.hc_core.specs.Lookup.{Among, but}
+use Rattle.hc_base.specs.Lookup.{Among, but}
 use Rattle.hc_core.specs.Account.{AreOf, IsEventOf, IsOf, KeyAsked, PartAsked, Txn, PartRead, WhenOpen, part_of, begun_at, HasWritten, IsIdle, after_reserve, weight_of, after_entry, after_event, newest_changed, without}
 use Rattle.hc_core.specs.Diary.{entry_of}
 use Rattle.hc_core.specs.Versions.{AreCellsAfter}
@@ -15,7 +15,7 @@ use Rattle.hc_core.specs.declared.event.Event.{Event}
 use Rattle.hc_core.specs.declared.event.Event.TheVariants.{Begin, Draw, Read, Put, Propose, Check, Decide, Unput, End, Purge}
 use Rattle.hc_core.specs.declared.outcome.Outcome.{Outcome}
 use Rattle.hc_core.specs.declared.outcome.Outcome.TheVariants.{Done, Began, Drew, Cells, Met, Proposed, Lost, Decided, NotNow}
-use Rattle.hc_core.proofs.Lookups.{each_grown, grown_here}
+use Rattle.hc_base.proofs.Lookups.{each_grown, grown_here}
 use Rattle.hc_core.proofs.Named.{names_in_the_way, names_found}
 use Rattle.hc_core.proofs.Entered.{opened, of_newest, entered_sound, changed_sound, sound_logged, txns_of-start, account_of-start}
 use Rattle.hc_core.proofs.Ordered.{newest_there, newest_sound}

@@ -1,13 +1,14 @@
 -- Small facts that the steps of the machine share.
-use Rattle.std.proofs.Common.{◌≡◌, ◌≢◌, ◌∙◌, ◌↔◌, ◌^◌, inl, inr, ⊎_elim, ◌⊎◌, max, not, Bool, refl, sym, ap, subst, ℕ, ◌-◌, ◌<◌, ◌≤◌, true, false, Option, Some, None, MatchOption, List, [], ◌∷◌, length, map, get_or, arith, Vec, Global, vec_len}
+use Rattle.std.proofs.Common.{◌≡◌, ◌≢◌, ◌∙◌, ◌↔◌, ◌^◌, inl, inr, ⊎_elim, ◌⊎◌, max, not, Bool, refl, sym, ap, subst, ℕ, ◌-◌, ◌<◌, ◌≤◌, true, false, Option, Some, None, MatchOption, Result, Ok, Err, IfOk, List, [], ◌∷◌, length, map, get_or, slice_set, arith, Vec, Global, vec_len}
 use Rattle.std.specs.Option.{is_some}
-use Rattle.std.proofs.lemmas.Bool.{cases_eq}
-use Rattle.std.proofs.lemmas.List.{get_or_default, length-map}
+use Rattle.std.proofs.lemmas.Bool.{cases_eq, false_from_ne_true}
+use Rattle.std.proofs.lemmas.List.{get_or_default, get_or-set_same, length-map}
 use Rattle.std.specs.Str.{bytes_eq}
-use Rattle.hc_core.specs.Lookup.{Among}
-use Rattle.hc_core.specs.Account.{Txn, HoldsKey, HasWritten, WhenOpen, txns, without}
+use Rattle.hc_base.specs.Lookup.{Among}
+use Rattle.hc_core.specs.Account.{Txn, HoldsKey, HasWritten, WhenOpen, after_entry, after_event, newest_changed, txns, without}
 use Rattle.hc_core.specs.Diary.{entry_of}
-use Rattle.hc_core.specs.Machine.{IsEnabled, Machine, txns_of}
+use Rattle.hc_core.specs.Kept.{IsKept, machine_of}
+use Rattle.hc_core.specs.Machine.{Answers, IsAnswer, IsEnabled, Machine, account_of, after, entered, txns_of, with_entry}
 use Rattle.hc_core.specs.Running.{HaveSameWrites, Matches, greatest_ord, holds_key}
 use Rattle.hc_core.specs.Sound.{IsSound}
 use Rattle.hc_core.specs.declared.account.Entry.{Entry}
@@ -21,7 +22,7 @@ use Rattle.hc_core.proofs.Counted.{log_below}
 use Rattle.hc_core.proofs.Elements.{among_filter}
 use Rattle.hc_core.proofs.Entered.{opened, in_range}
 use Rattle.hc_core.proofs.LogEntries.{holds_from, holds_into}
-use Rattle.hc_core.proofs.Upheld.{Settles}
+use Rattle.hc_core.proofs.Upheld.{Settles, kept_changed}
 
 -- the new account is the old one with an entry
 pub entry_is : (account old : List Entry) (accounts : List (List Entry)) (i : ℕ) (d : List Entry) (event : Event) (result outcome : Outcome)
@@ -104,26 +105,31 @@ pub not_both_ways : (b : Bool) → b ≡ true → b ≡ false → ⊥
 not_both_ways b is_so is_not = let e : true ≡ false = sym is_so ∙ is_not in cc
 
 -- what is kept tells whether a key is, until it is decided
-pub written_of : (r : Running) (t : Txn) (key : List ℕ) → Matches r t → r.place ≡ 0 → holds_key key r.writes.items ≡ true → HasWritten t key × (t.place ≡ 0)
+pub written_of : (r : Running) (t : Txn) (key : List ℕ) → Matches r t → r.place ≡ 0 → holds_key key r.writes.put ≡ true → HasWritten t key × (t.place ≡ 0)
 written_of r t key h none held =
     let undecided = sym h.place ∙ none in
-    (holds_there r.writes.items t.write_set key (h.writes undecided) (holds_into key r.writes.items held), undecided)
+    (holds_there r.writes.put t.write_set key (h.writes undecided) (holds_into key r.writes.put held), undecided)
 
 -- a key that is in the write set in an undecided transaction is among the writes that are kept
-pub held_of : (r : Running) (t : Txn) (key : List ℕ) → Matches r t → t.place ≡ 0 → HasWritten t key → holds_key key r.writes.items ≡ true
-held_of r t key h undecided written = holds_from key r.writes.items (holds_back r.writes.items t.write_set key (h.writes undecided) written)
+pub held_of : (r : Running) (t : Txn) (key : List ℕ) → Matches r t → t.place ≡ 0 → HasWritten t key → holds_key key r.writes.put ≡ true
+held_of r t key h undecided written = holds_from key r.writes.put (holds_back r.writes.put t.write_set key (h.writes undecided) written)
+
+-- and one that is not in the write set is not
+pub free_of : (r : Running) (t : Txn) (key : List ℕ) → Matches r t → t.place ≡ 0 → (HasWritten t key → ⊥) → holds_key key r.writes.put ≡ false
+free_of r t key h undecided free =
+    false_from_ne_true (holds_key key r.writes.put) (λ held. free ((written_of r t key h (h.place ∙ undecided) held).0))
 
 -- what is kept tells whether a transaction may end
 pub may_end_of : (r : Running) (t : Txn) → Matches r t
-    → ((r.place ≢ 0) ⊎ (r.writes.items ≡ [])) ↔ ((t.place ≢ 0) ⊎ (t.write_set ≡ []))
+    → ((r.place ≢ 0) ⊎ (r.writes.put ≡ [])) ↔ ((t.place ≢ 0) ⊎ (t.write_set ≡ []))
 may_end_of r t h = (
   λ may. elim may [
     | inl some ↦ inl (λ none. some (h.place ∙ none))
-    | inr none ↦ ⊎_elim (λ (undecided : t.place ≡ 0). inr (nothing_written r.writes.items t.write_set (h.writes undecided) none)) (λ some. inl some) (cases_eq t.place 0)
+    | inr none ↦ ⊎_elim (λ (undecided : t.place ≡ 0). inr (nothing_written r.writes.put t.write_set (h.writes undecided) none)) (λ some. inl some) (cases_eq t.place 0)
   ],
   λ may. elim may [
     | inl some ↦ inl (λ none. some (sym h.place ∙ none))
-    | inr none ↦ ⊎_elim (λ (undecided : t.place ≡ 0). inr (nothing_back r.writes.items t.write_set (h.writes undecided) none)) (λ some. inl (λ none. some (sym h.place ∙ none))) (cases_eq t.place 0)
+    | inr none ↦ ⊎_elim (λ (undecided : t.place ≡ 0). inr (nothing_back r.writes.put t.write_set (h.writes undecided) none)) (λ some. inl (λ none. some (sym h.place ∙ none))) (cases_eq t.place 0)
   ],
 )
 
@@ -169,3 +175,44 @@ draw_enabled m i ord last r old d h none is greatest above bounded left =
 pub match_map : {A : Type 0} (found : Option A) (P R : Type 0) (Q S : A → Type 0) → MatchOption found P Q → (P → R) → ((x : A) → Q x → S x) → MatchOption found R S
 match_map None P R Q S h none some = none h
 match_map (Some x) P R Q S h none some = some x h
+
+-- an event of an open transaction is entered, that leaves the log and the number of ids
+pub kept_event : (drawn room : ℕ) (commits : List Commit) (accounts : List (List Entry)) (i : ℕ) (account old d : List Entry) (event : Event) (outcome : Outcome) (f : Txn → Txn)
+    → IsKept drawn commits room accounts → account ≡ entry_of event outcome ∷ old → old ≡ get_or accounts i d
+    → Answers (machine_of drawn commits accounts) event outcome
+    → after (machine_of drawn commits accounts) event outcome ≡ entered (machine_of drawn commits accounts) i event outcome
+    → ((ts : List Txn) → after_event event outcome ts ≡ newest_changed f ts)
+    → WhenOpen (txns_of (machine_of drawn commits accounts) i) (λ t. Settles t (f t)) → IsKept drawn commits room (slice_set accounts i account)
+kept_event drawn room commits accounts i account old d event outcome f kept is was answers as_after as_change open_now =
+    let within = open_in_range (machine_of drawn commits accounts) i (λ t. Settles t (f t)) open_now in
+    kept_changed drawn commits accounts i account event event outcome (entry_is account old accounts i d event outcome outcome is was within refl) refl
+    room f kept answers as_after as_change open_now
+
+-- what is open in the machine that is held is open in the account that was looked up
+pub there_open : (held now : Machine) (i : ℕ) (old d : List Entry) (P Q : Txn → Type 0) → held ≡ now → old ≡ get_or held.accounts i d
+    → WhenOpen (txns_of now i) P → ((t : Txn) → P t → Q t) → WhenOpen (txns old) Q
+there_open held now i old d P Q is was h k =
+    let here : WhenOpen (txns_of held i) P = subst (λ (m : Machine). WhenOpen (txns_of m i) P) (sym is) h in
+    subst (λ a. WhenOpen (txns a) Q) (sym (account_is held.accounts i d old was (open_in_range held i P here))) (when_map P Q (txns_of held i) k here)
+
+-- what is open in one is open in the other
+pub held_open : (held now : Machine) (i : ℕ) (P : Txn → Type 0) → held ≡ now → WhenOpen (txns_of now i) P → WhenOpen (txns_of held i) P
+held_open held now i P is = subst (λ (m : Machine). WhenOpen (txns_of m i) P) (sym is)
+
+-- what an answer that is not an error says, turned into something else that it says
+pub ok_map : {A E : Type 0} (r : Result A E) (P Q : A → Type 0) → IfOk r P → ((x : A) → P x → Q x) → IfOk r Q
+ok_map (Ok x) P Q h k = k x h
+ok_map (Err e) P Q h k = h
+
+-- an answer to an event that is enabled
+pub answer_of : (m : Machine) (event : Event) (outcome : Outcome) → IsEnabled m event → Answers m event outcome → IsAnswer m event outcome
+answer_of m event outcome enabled answers = ⊎_elim (λ is. is.1) (λ refused. absurd (refused.0 enabled)) answers
+
+-- a draw is enabled for an ordinal above all, where an id is left
+pub draw_may : (m : Machine) (i ord : ℕ) → WhenOpen (txns_of m i) (λ t. t.id ≡ 0) → greatest_ord (txns_of m i) < ord → m.drawn < 2 ^ 32 - 1 → IsEnabled m (Draw i ord)
+draw_may m i ord reading above left =
+    when_map (λ t. t.id ≡ 0) _ (txns_of m i) (λ t none. (none, omega (arith, above), (λ u there. omega (arith, ord_within (txns_of m i) u there, above)), left)) reading
+
+-- the transactions of the connection of an entry
+pub txns_here : (m : Machine) (i : ℕ) (entry : Entry) → i < length m.accounts → txns_of (with_entry m i entry) i ≡ after_entry entry (txns_of m i)
+txns_here m i entry within = ap txns (get_or-set_same m.accounts i (entry ∷ account_of m i) [] within)

@@ -1,21 +1,23 @@
 -- What the machine keeps holds again after an event whose answer the table gives.
-use Rattle.std.proofs.Common.{◌≡◌, ◌≢◌, ◌∙◌, inl, refl, sym, ap, subst, ℕ, ◌+◌, ◌<◌, ◌≤◌, ◌^◌, List, [], ◌∷◌, ◌++◌, length, get_or, slice_set, replicate, arith}
+use Rattle.std.proofs.Common.{◌≡◌, ◌≢◌, ◌∙◌, inl, refl, sym, ap, subst, ℕ, ◌+◌, ◌<◌, ◌≤◌, ◌^◌, List, [], ◌∷◌, ◌++◌, length, get_or, slice_set, replicate, arith, None}
 use Rattle.std.proofs.lemmas.List.{length-replicate, length-set}
-use Rattle.hc_core.specs.Lookup.{Among, but}
-use Rattle.hc_core.specs.Account.{Txn, HasWritten, WhenOpen, after_event, begun_at, newest_changed}
+use Rattle.hc_base.specs.Lookup.{Among, but}
+use Rattle.hc_core.specs.Account.{Txn, HasWritten, WhenOpen, after_entry, after_event, after_reserve, begun_at, newest_changed}
 use Rattle.hc_core.specs.Commits.{IsCommitOf, AreCommits}
 use Rattle.hc_core.specs.Diary.{entry_of}
 use Rattle.hc_core.specs.Kept.{IsKept, machine_of}
-use Rattle.hc_core.specs.Machine.{Machine, Answers, after, entered, txns_of}
+use Rattle.hc_core.specs.Machine.{Machine, Answers, after, entered, txns_of, with_entry}
 use Rattle.hc_core.specs.Running.{HaveSameWrites}
 use Rattle.hc_core.specs.Sound.{IsSound}
 use Rattle.hc_core.specs.declared.account.Entry.{Entry}
+use Rattle.hc_core.specs.declared.account.Entry.TheVariants.{Reserved}
+use Rattle.hc_core.specs.declared.cells.Write.{Write}
 use Rattle.hc_core.specs.declared.commit.Commit.{Commit}
 use Rattle.hc_core.specs.declared.event.Event.{Event}
 use Rattle.hc_core.specs.declared.outcome.Outcome.{Outcome}
-use Rattle.hc_core.proofs.Lookups.{new_here, rest_here, others_here, each_old, each_either, each_grown, grown_here}
+use Rattle.hc_base.proofs.Lookups.{new_here, rest_here, others_here, each_old, each_either, each_grown, grown_here}
 use Rattle.hc_core.proofs.Entered.{opened, in_range, txns_of-entered, txns_of-start}
-use Rattle.hc_core.proofs.SoundRuns.{sound_with, start_sound}
+use Rattle.hc_core.proofs.SoundRuns.{sound_with, start_sound, step_sound}
 
 -- what the log and the bound on keys rest on: where it is decided, who it is and what it put; and short keys
 pub record Settles (t new : Txn) : Type 0 where
@@ -67,15 +69,53 @@ commits_pushed of c [] commit h last = (subst (λ n. IsCommitOf of n commit) (om
 commits_pushed of c (first ∷ commits) commit h last =
     (h.0, commits_pushed of (c + 1) commits commit h.1 (subst (λ n. IsCommitOf of n commit) (omega arith) last))
 
+-- whatever an entry does to the connection's transactions and to the log
+kept_with : (drawn room larger more : ℕ) (commits longer : List Commit) (accounts : List (List Entry)) (i : ℕ) (account : List Entry) (entry : Entry) (now : List Txn)
+    → IsKept drawn commits room accounts → account ≡ entry ∷ get_or accounts i [] → i < length accounts
+    → IsSound (machine_of more longer (with_entry (machine_of drawn commits accounts) i entry).accounts)
+    → after_entry entry (txns_of (machine_of drawn commits accounts) i) ≡ now → AreCommits (but (txns_of (machine_of drawn commits accounts)) i now) 1 longer
+    → ((j : ℕ) (u : Txn) → Among u (but (txns_of (machine_of drawn commits accounts)) i now j) → (key : List ℕ) → HasWritten u key → length key ≤ 463)
+    → more < 2 ^ 32 → more ≤ larger → IsKept more longer larger (slice_set accounts i account)
+kept_with drawn room larger more commits longer accounts i account entry now kept is within sound as_now logged short bounded roomy =
+    let m = machine_of drawn commits accounts in
+    let is_now : txns_of (with_entry m i entry) ≡ but (txns_of m) i now = txns_of-entered m i entry within ∙ ap (but (txns_of m) i) as_now in
+    let there : slice_set accounts i account ≡ (with_entry m i entry).accounts = rw is refl in
+    rw there record {
+      sound = sound;
+      logged = subst (λ (of : ℕ → List Txn). AreCommits of 1 longer) (sym is_now) logged;
+      short = λ j u key there_now written. short j u (subst (λ (of : ℕ → List Txn). Among u (of j)) is_now there_now) key written;
+      few = rw (length-set accounts i (entry ∷ get_or accounts i [])) kept.few;
+      bounded = bounded;
+      roomy = roomy;
+    }
+
+-- a short key is where one was, and where one comes
+short_with : (drawn room : ℕ) (commits : List Commit) (accounts : List (List Entry)) (i : ℕ) (t new : Txn) (rest : List Txn)
+    → IsKept drawn commits room accounts → txns_of (machine_of drawn commits accounts) i ≡ t ∷ rest → Settles t new
+    → (j : ℕ) (u : Txn) → Among u (but (txns_of (machine_of drawn commits accounts)) i (new ∷ rest) j) → (key : List ℕ) → HasWritten u key → length key ≤ 463
+short_with drawn room commits accounts i t new rest kept is settles =
+    each_either (txns_of (machine_of drawn commits accounts)) i t rest is new (λ j u. (key : List ℕ) → HasWritten u key → length key ≤ 463)
+    (settles.short (λ key written. kept.short i t key (subst (Among t) (sym is) (inl refl)) written))
+    (λ j u there key written. kept.short j u key there written)
+
+-- room is made for the writes of an open transaction, which is a note
+pub kept_room : (drawn room : ℕ) (commits : List Commit) (accounts : List (List Entry)) (i : ℕ) (account : List Entry) (writes : List Write)
+    → IsKept drawn commits room accounts → account ≡ Reserved i writes ∷ get_or accounts i []
+    → WhenOpen (txns_of (machine_of drawn commits accounts) i) (λ t. (t.id ≢ 0) × (t.weight ≡ None)) → IsKept drawn commits room (slice_set accounts i account)
+kept_room drawn room commits accounts i account writes kept is open_now =
+    let m = machine_of drawn commits accounts in
+    let o = opened (txns_of m i) (λ t. (t.id ≢ 0) × (t.weight ≡ None)) open_now in
+    let settles : Settles o.t (after_reserve writes o.t) = record { decided = λ some. (refl, refl, refl, refl); short = λ short. short } in
+    kept_with drawn room room drawn commits commits accounts i account (Reserved i writes) (after_reserve writes o.t ∷ o.rest) kept is (in_range m i o.t o.rest o.is)
+    (step_sound m (Reserved i writes) kept.sound open_now) (ap (newest_changed (after_reserve writes)) o.is)
+    (commits_changed (txns_of m) i o.t (after_reserve writes o.t) o.rest 1 commits o.is settles (omega arith) kept.logged)
+    (short_with drawn room commits accounts i o.t (after_reserve writes o.t) o.rest kept o.is settles) kept.bounded kept.roomy
+
 -- the accounts after an entry are those of the table
 module _ (drawn : ℕ) (commits : List Commit) (accounts : List (List Entry)) (i : ℕ) (account : List Entry) (event same : Event) (outcome : Outcome)
     (is : account ≡ entry_of event outcome ∷ get_or accounts i []) (form : event ≡ same) where
   abbrev m : Machine
   m = machine_of drawn commits accounts
-
-  -- the accounts with the new one in its place are those after the entry
-  pub accounts_entered : slice_set accounts i account ≡ (entered m i same outcome).accounts
-  accounts_entered = rw (is, form) refl
 
   -- whatever the event does to the connection's transactions and to the log
   pub kept_entered : (room larger more : ℕ) (longer : List Commit) (now : List Txn) → IsKept drawn commits room accounts → Answers m same outcome
@@ -84,24 +124,13 @@ module _ (drawn : ℕ) (commits : List Commit) (accounts : List (List Entry)) (i
       → ((j : ℕ) (u : Txn) → Among u (but (txns_of m) i now j) → (key : List ℕ) → HasWritten u key → length key ≤ 463)
       → more < 2 ^ 32 → more ≤ larger → IsKept more longer larger (slice_set accounts i account)
   kept_entered room larger more longer now kept answers within as_after as_now logged short bounded roomy =
-      let is_now : txns_of (entered m i same outcome) ≡ but (txns_of m) i now =
-      txns_of-entered m i (entry_of same outcome) within ∙ ap (but (txns_of m) i) as_now in
-      rw accounts_entered record {
-        sound = subst IsSound as_after (sound_with m same outcome kept.sound answers);
-        logged = subst (λ (of : ℕ → List Txn). AreCommits of 1 longer) (sym is_now) logged;
-        short = λ j u key there written. short j u (subst (λ (of : ℕ → List Txn). Among u (of j)) is_now there) key written;
-        few = rw (← accounts_entered, length-set accounts i account) kept.few;
-        bounded = bounded;
-        roomy = roomy;
-      }
+      kept_with drawn room larger more commits longer accounts i account (entry_of same outcome) now kept (is ∙ ap (λ e. entry_of e outcome ∷ get_or accounts i []) form) within
+      (subst IsSound as_after (sound_with m same outcome kept.sound answers)) as_now logged short bounded roomy
 
   -- a short key is where one was, and where one comes
   pub short_changed : (room : ℕ) (t new : Txn) (rest : List Txn) → IsKept drawn commits room accounts → txns_of m i ≡ t ∷ rest → Settles t new
       → (j : ℕ) (u : Txn) → Among u (but (txns_of m) i (new ∷ rest) j) → (key : List ℕ) → HasWritten u key → length key ≤ 463
-  short_changed room t new rest kept is settles =
-      each_either (txns_of m) i t rest is new (λ j u. (key : List ℕ) → HasWritten u key → length key ≤ 463)
-      (settles.short (λ key written. kept.short i t key (subst (Among t) (sym is) (inl refl)) written))
-      (λ j u there key written. kept.short j u key there written)
+  short_changed room t new rest = short_with drawn room commits accounts i t new rest
 
   -- the newest transaction changes, and neither the log nor the number of ids does
   pub kept_changed : (room : ℕ) (f : Txn → Txn) → IsKept drawn commits room accounts → Answers m same outcome

@@ -4,7 +4,7 @@ use Rattle.std.proofs.lemmas.Bool.{true≢false}
 use Rattle.hc_range.specs.declared.range.Range.{Range}
 use Rattle.hc_range.specs.Order.{is_below}
 use Rattle.hc_range.specs.Ranges.{InRange, Includes}
-use Rattle.hc_core.specs.Lookup.{Among}
+use Rattle.hc_base.specs.Lookup.{Among}
 use Rattle.hc_core.specs.Account.{Txn, PartRead, HoldsKey, HasWritten, begun_at, part_of, txns}
 use Rattle.hc_core.specs.Laws.{IsTheRun}
 use Rattle.hc_core.specs.Examples.{key_a, key_b, key_c, key_p, one_commit, under_a_newer_one, write_skew}

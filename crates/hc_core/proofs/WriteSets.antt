@@ -1,7 +1,7 @@
 -- The write set: a write in front, and the writes but those of a key.
 use Rattle.std.proofs.Common.{◌≡◌, ◌⊎◌, inl, inr, ⊎_elim, sym, ap, ℕ, Bool, true, false, cond, not, List, [], ◌∷◌, Option, filter, subst, bytes_eq}
 use Rattle.hc_core.specs.declared.cells.Write.{Write}
-use Rattle.hc_core.specs.Lookup.{Among}
+use Rattle.hc_base.specs.Lookup.{Among}
 use Rattle.hc_core.specs.Account.{Txn, HoldsKey, HasWritten, without}
 use Rattle.hc_core.specs.Sound.{IsAbsent, HasEachOnce}
 

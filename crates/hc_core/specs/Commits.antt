@@ -6,7 +6,7 @@ use Rattle.std.specs.List.{list_any}
 use Rattle.hc_range.specs.declared.range.Range.{Range}
 use Rattle.hc_range.specs.Order.{is_below}
 use Rattle.hc_range.specs.Ranges.{is_under}
-use Rattle.hc_core.specs.Lookup.{Among}
+use Rattle.hc_base.specs.Lookup.{Among}
 use Rattle.hc_core.specs.Account.{Txn}
 use Rattle.hc_core.specs.Running.{HaveSameWrites, holds_key}
 use Rattle.hc_core.specs.declared.cells.Cell.{Cell}
@@ -131,7 +131,7 @@ IsMetBetween snapshot number range commits met = (place : ℕ) × (least_between
 
 -- no commit above a snapshot put the key
 abbrev pub IsNoneAbove : ℕ → List ℕ → List Commit → Type 0
-IsNoneAbove snapshot key commits = NoneIsWith key commits ⊎ ((place : ℕ) × IsLastWith key commits place × (place + 1 ≤ snapshot))
+IsNoneAbove snapshot key commits = (place : ℕ) → snapshot ≤ place → place < length commits → holds_key key (writes_at commits place) ≡ false
 
 -- a refusal names the key and the last commit that put it, which is above a snapshot
 abbrev pub IsMetAbove : ℕ → List ℕ → List Commit → MetRecord → Type 0

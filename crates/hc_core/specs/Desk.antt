@@ -7,7 +7,7 @@ use Rattle.hc_range.specs.Order.{IsBelow}
 use Rattle.hc_range.specs.Ranges.{InRange, Includes}
 use Rattle.hc_core.specs.Account.{HasWritten, PartRead, WhenOpen, part_of, record_of, txns}
 use Rattle.hc_core.specs.Diary.{entry_of}
-use Rattle.hc_core.specs.Lookup.{Among}
+use Rattle.hc_base.specs.Lookup.{Among}
 use Rattle.hc_core.specs.Versions.{AreAscending}
 use Rattle.hc_core.specs.declared.account.Entry.{Entry}
 use Rattle.hc_core.specs.declared.account.Entry.TheVariants.{FoundFull, Reserved}

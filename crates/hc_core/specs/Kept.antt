@@ -1,14 +1,14 @@
 -- What the machine keeps at run time, which machine it is, and what holds of it between two events.
-use Rattle.std.specs.Prelude.{ℕ, ◌<◌, ◌≤◌, ◌^◌, List, length, map}
-use Rattle.hc_core.specs.Lookup.{Among}
-use Rattle.hc_core.specs.Account.{Txn, HasWritten}
+use Rattle.std.specs.Prelude.{◌≢◌, None, ℕ, ◌<◌, ◌≤◌, ◌^◌, List, length, map}
+use Rattle.hc_base.specs.Lookup.{Among}
+use Rattle.hc_core.specs.Account.{Txn, HasWritten, WhenOpen}
 use Rattle.hc_core.specs.Commits.{AreCommits}
 use Rattle.hc_core.specs.Machine.{Machine, txns_of}
 use Rattle.hc_core.specs.Sound.{IsSound}
 use Rattle.hc_core.specs.declared.account.Entry.{Entry}
 use Rattle.hc_core.specs.declared.commit.Commit.{Commit}
 use Rattle.hc_core.specs.declared.event.Event.{Event}
-use Rattle.hc_core.specs.declared.event.Event.TheVariants.{Check, Draw, Put, Read}
+use Rattle.hc_core.specs.declared.event.Event.TheVariants.{Check, Decide, Draw, Put, Read}
 
 -- the machine of a number of drawn ids, a log and accounts
 abbrev pub machine_of : ℕ → List Commit → List (List Entry) → Machine
@@ -40,3 +40,17 @@ MayTakeMemory (Read conn from upto) = Unit {0}
 MayTakeMemory (Put conn key rec) = Unit {0}
 MayTakeMemory (Check conn from upto) = Unit {0}
 MayTakeMemory _ = ⊥
+
+-- the parts that a connection's open transaction checked are kept. They are not where a desk makes its calls: from the note
+-- of its writes on, while it proposes a number
+abbrev pub KeepsChecks : Machine → ℕ → Type 0
+KeepsChecks m i = WhenOpen (txns_of m i) (λ t. (t.weight ≢ None) × (t.proposed ≢ 0)) → ⊥
+
+-- a decision is by checks that are kept
+abbrev pub DecidesOnKept : Machine → Event → Type 0
+DecidesOnKept m (Decide i) = KeepsChecks m i
+DecidesOnKept m _ = Unit {0}
+
+-- no open transaction is a desk's
+abbrev pub NoneIsDesks : Machine → Type 0
+NoneIsDesks m = (i : ℕ) → WhenOpen (txns_of m i) (λ t. t.weight ≢ None) → ⊥

@@ -1,7 +1,7 @@
 -- What holds of the machine's table, and so after any run: from a new machine for any number of connections,
 -- over any events in any order.
 use Rattle.std.specs.Prelude.{◌≡◌, ◌≢◌, ℕ, List, ◌∷◌, map, ◌⊎◌, ◌↔◌}
-use Rattle.hc_core.specs.Lookup.{Among}
+use Rattle.hc_base.specs.Lookup.{Among}
 use Rattle.hc_core.specs.Account.{Txn, PartRead, Refusal, HasWritten, HasRead}
 use Rattle.hc_core.specs.Versions.{AreCellsAfter, AreVersions, IsLatestVersion}
 use Rattle.hc_core.specs.Machine.{Machine, start, Answers, after, Runs, txns_of}

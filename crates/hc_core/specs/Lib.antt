@@ -1,13 +1,16 @@
 pub mod Diary
-pub mod Lookup
+pub mod Said
 pub mod Account
 pub mod Commits
 pub mod Versions
 pub mod Machine
+pub mod WriteSet
 pub mod Running
 pub mod Sound
 pub mod Kept
 pub mod Laws
 pub mod Examples
 pub mod Desk
+pub mod Calls
 pub mod Cutting
+pub mod ListDesk

@@ -3,7 +3,7 @@
 use Rattle.std.specs.Prelude.{◌≡◌, ◌≢◌, ℕ, ◌+◌, ◌-◌, ◌<◌, ◌≤◌, ◌^◌, false, None, List, [], ◌∷◌, ◌++◌, ◌⊎◌, length, replicate, get_or, slice_index, slice_set}
 use Rattle.hc_range.specs.declared.range.Range.{Range}
 use Rattle.hc_range.specs.Ranges.{InRange, Includes}
-use Rattle.hc_core.specs.Lookup.{Among}
+use Rattle.hc_base.specs.Lookup.{Among}
 use Rattle.hc_core.specs.Account.{Txn, PartRead, part_of, txns, HasWritten, HasWrittenAs, IsIdle, WhenOpen}
 use Rattle.hc_core.specs.Versions.{AreCellsAfter, IsLatestVersion, IsInTheWay, IsBetween, IsFound}
 use Rattle.hc_core.specs.Diary.{entry_of}

@@ -4,7 +4,7 @@
 use Rattle.std.specs.Prelude.{◌≡◌, ◌≢◌, ℕ, ◌+◌, ◌<◌, ◌≤◌, Bool, true, Option, List, [], ◌∷◌, ◌⊎◌, length, slice_index}
 use Rattle.hc_range.specs.declared.range.Range.{Range}
 use Rattle.hc_range.specs.Ranges.{InRange}
-use Rattle.hc_core.specs.Lookup.{Among}
+use Rattle.hc_base.specs.Lookup.{Among}
 use Rattle.hc_core.specs.Account.{AreOf, Txn, PartRead, PartChecked, Refusal, HoldsKey, HasWritten, LiesInRead, IsPart, IsAskedFor}
 use Rattle.hc_core.specs.Versions.{PutAt, AreCellsAfter}
 use Rattle.hc_core.specs.Machine.{Machine, account_of, txns_of}

@@ -4,7 +4,7 @@ use Rattle.std.specs.Prelude.{◌≡◌, ◌≢◌, ℕ, ◌<◌, ◌≤◌, Opt
 use Rattle.hc_range.specs.declared.range.Range.{Range}
 use Rattle.hc_range.specs.Order.{IsBelow, IsAtMost}
 use Rattle.hc_range.specs.Ranges.{InRange}
-use Rattle.hc_core.specs.Lookup.{Among}
+use Rattle.hc_base.specs.Lookup.{Among}
 use Rattle.hc_core.specs.Account.{Txn, HasWritten, HasWrittenAs}
 use Rattle.hc_core.specs.declared.cells.Cell.{Cell}
 

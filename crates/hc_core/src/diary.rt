@@ -1,12 +1,17 @@
 // A connection's account, which contracts see and the program does not keep.
 ghost use Rattle.std.specs.Prelude.{◌≡◌, ◌<◌, List, [], ◌∷◌, IfOk};
 ghost use Rattle.hc_core.specs.Diary.{noted, entry_of};
+ghost use Rattle.std.specs.Option.{option_copied};
+ghost use Rattle.hc_core.specs.Said.{entry_said, met_said};
+ghost use Rattle.hc_core.specs.declared.account.Entry.TheVariants.{Reserved};
 ghost use Rattle.hc_core.specs.declared.account.Entry.{Entry};
-ghost use Rattle.hc_core.specs.declared.event.Event.TheVariants.{Begin};
-ghost use Rattle.hc_core.specs.declared.outcome.Outcome.TheVariants.{NotNow};
+ghost use Rattle.hc_core.specs.declared.event.Event.TheVariants.{Begin, Read};
+ghost use Rattle.hc_core.specs.declared.outcome.Outcome.TheVariants.{Cells, NotNow};
 
-use crate::{Account, Event, NoMemory, Outcome};
+use crate::said::Said;
+use crate::{Account, Cell, Met, NoMemory, Write};
 use atomic_table::{Play, Seat, Shared, Table, TableRule};
+use hc_range::Range;
 use std::alloc::Global;
 use std::marker::{Brand, Model, PhantomData};
 
@@ -40,37 +45,6 @@ impl<N: Noting> Play<(), Account> for Notes<N> {
     ghost then = { λ step before found after. after ≡ (noted before.0 N.entry, []) };
 }
 
-// One load, by which the seat's view gets the entry. Nothing is kept.
-fn note_as<N: Noting>(
-    board: &Shared<(), Account, (), Free>,
-    seat: &mut Seat<(), Account>,
-    _event: &Event,
-    _outcome: &Outcome,
-)
-    requires table { seat.old.table_id ≡ board.now.table_id }
-    requires word { 0 < board.now.table_id.words }
-    requires bare { seat.old.me.1 ≡ [] }
-    ensures table { seat.new.table_id ≡ seat.old.table_id }
-    ensures view { seat.new.me ≡ (noted seat.old.me.0 N.entry, []) }
-{
-    board.load::<Notes<N>>(seat, 0);
-}
-
-fn note(
-    board: &Shared<(), Account, (), Free>,
-    seat: &mut Seat<(), Account>,
-    event: &Event,
-    outcome: &Outcome,
-)
-    requires table { seat.old.table_id ≡ board.now.table_id }
-    requires word { 0 < board.now.table_id.words }
-    requires bare { seat.old.me.1 ≡ [] }
-    ensures table { seat.new.table_id ≡ seat.old.table_id }
-    ensures view { seat.new.me ≡ (noted seat.old.me.0 (entry_of event.now outcome.now), []) }
-{
-    note_as::<Brand>(board, seat, event, outcome);
-}
-
 /// A connection's account. Contracts see the list of its entries, the newest first. It is kept nowhere:
 /// it is the view of a seat at a table of one word, and an entry costs one load of the word.
 #[derive(Drop)]
@@ -99,11 +73,61 @@ impl Diary {
         Ok(Diary { table, seat })
     }
 
-    /// Enters an event with its answer. It takes no memory.
-    pub fn note(&mut self, event: &Event, outcome: &Outcome)
-        ensures { self.new ≡ entry_of event.now outcome.now ∷ self.old }
+    // One load, by which the seat's view gets the entry. Nothing is kept: the arguments are there for the choice of the
+    // entry, and so is there a function for each kind of arguments.
+    fn note_as<N: Noting>(&mut self, _said: Said, _key: &[u8], _rec: Option<&[u8]>)
+        ensures { self.new ≡ N.entry ∷ self.old }
     {
         let table = &self.table;
-        note(&table.shared, &mut self.seat, event, outcome);
+        table.shared.load::<Notes<N>>(&mut self.seat, 0);
+    }
+
+    fn note_met_as<N: Noting>(&mut self, _said: Said, _key: &[u8], _rec: Option<&[u8]>, _met: &Met)
+        ensures { self.new ≡ N.entry ∷ self.old }
+    {
+        let table = &self.table;
+        table.shared.load::<Notes<N>>(&mut self.seat, 0);
+    }
+
+    fn note_read_as<N: Noting>(&mut self, _conn: u32, _range: &Range, _cells: &[Cell])
+        ensures { self.new ≡ N.entry ∷ self.old }
+    {
+        let table = &self.table;
+        table.shared.load::<Notes<N>>(&mut self.seat, 0);
+    }
+
+    fn note_room_as<N: Noting>(&mut self, _conn: u32, _writes: &[Write])
+        ensures { self.new ≡ N.entry ∷ self.old }
+    {
+        let table = &self.table;
+        table.shared.load::<Notes<N>>(&mut self.seat, 0);
+    }
+
+    /// Adds an entry with a key and a record, or with the ends of a part. No call of these takes memory.
+    pub fn note(&mut self, said: Said, key: &[u8], rec: Option<&[u8]>)
+        ensures { self.new ≡ entry_said said key.now (option_copied rec.entry) ∷ self.old }
+    {
+        self.note_as::<Brand>(said, key, rec);
+    }
+
+    /// Adds a put or a check that was refused.
+    pub fn note_met(&mut self, said: Said, key: &[u8], rec: Option<&[u8]>, met: &Met)
+        ensures { self.new ≡ met_said said key.now (option_copied rec.entry) met.now ∷ self.old }
+    {
+        self.note_met_as::<Brand>(said, key, rec, met);
+    }
+
+    /// Adds a read of a range, with its cells.
+    pub fn note_read(&mut self, conn: u32, range: &Range, cells: &[Cell])
+        ensures { self.new ≡ entry_of (Read conn range.now.lo range.now.hi) (Cells (record { cells = cells.now })) ∷ self.old }
+    {
+        self.note_read_as::<Brand>(conn, range, cells);
+    }
+
+    /// Adds the writes for which room was made.
+    pub fn note_room(&mut self, conn: u32, writes: &[Write])
+        ensures { self.new ≡ Reserved conn writes.now ∷ self.old }
+    {
+        self.note_room_as::<Brand>(conn, writes);
     }
 }

@@ -3,17 +3,14 @@ ghost use Rattle.std.specs.Prelude.{◌≡◌, ◌≢◌, ◌⊎◌, ◌↔◌, 
 ghost use Rattle.hc_range.specs.Ranges.{InAny};
 ghost use Rattle.hc_core.specs.Running.{MayDecide, MayPut};
 
-use crate::running::{Running, has_key};
+use crate::running::Running;
 use hc_range::{Range, ReadLog};
 
 /// Whether a transaction may put a key.
 pub fn may_put(running: &Running, key: &[u8]) -> bool
     ensures { IsTrue result ↔ MayPut running.now key.now }
 {
-    running.tid != 0
-        && running.place == 0
-        && running.proposed == 0
-        && !has_key(running.writes.as_slice(), key)
+    running.tid != 0 && running.place == 0 && running.proposed == 0 && !running.writes.has(key)
 }
 
 /// Whether something is proposed, it is not decided, and what was read was checked for it.
@@ -39,7 +36,7 @@ pub fn includes_all(log: &ReadLog, ranges: &[Range]) -> bool
 
 /// Whether it is decided, or its write set is empty.
 pub fn may_end(running: &Running) -> bool
-    ensures { IsTrue result ↔ ((running.now.place ≢ 0) ⊎ (running.now.writes.items ≡ [])) }
+    ensures { IsTrue result ↔ ((running.now.place ≢ 0) ⊎ (running.now.writes.put ≡ [])) }
 {
-    running.place != 0 || running.writes.is_empty()
+    running.place != 0 || running.writes.put().is_empty()
 }

@@ -1,12 +1,13 @@
 // Questions to the log.
 ghost use Rattle.std.specs.Prelude.{◌≡◌, ◌+◌, ◌-◌, ◌<◌, ◌≤◌, None, drop, length, MatchOption};
+ghost use Rattle.hc_core.specs.Account.{part_of};
 ghost use Rattle.hc_core.specs.Commits.{AreShort, AreShortWrites, HasNoTombstone, IsLastTombstone, IsLastWith, IsMetAbove, IsMetAt, IsMetBetween, IsNoneAbove, NoneIsWith, holds_tombstone, is_in, is_tombstone, least_between, least_of, least_with, lesser, writes_at};
 
 use crate::commit::Commit;
 use crate::running::has_key;
 use crate::{Met, Write};
 use hc_base::Tid;
-use hc_range::{KeyBuf, Range, contains, is_below};
+use hc_range::{Bytes, KeyBuf, Range, contains, is_below};
 
 // What the entry at a place puts.
 fn writes_of(log: &[Commit], place: usize) -> &[Write]
@@ -16,12 +17,12 @@ fn writes_of(log: &[Commit], place: usize) -> &[Write]
     log[place].writes.as_slice()
 }
 
-/// The place of the last entry that puts a key.
-pub fn newest_with(log: &[Commit], key: &[u8]) -> Option<usize>
-    ensures { MatchOption result (NoneIsWith key.now log.now) (λ place. IsLastWith key.now log.now place) }
+// The place of the last entry that puts a key, of those from a place on.
+fn newest_from(log: &[Commit], from: usize, key: &[u8]) -> Option<usize>
+    ensures { MatchOption result (IsNoneAbove from key.now log.now) (λ place. IsLastWith key.now log.now place × (from ≤ place)) }
 {
     let mut place = log.len();
-    while place > 0 {
+    while place > from {
         place -= 1;
         if has_key(writes_of(log, place), key) {
             return Some(place);
@@ -30,11 +31,31 @@ pub fn newest_with(log: &[Commit], key: &[u8]) -> Option<usize>
     None
 }
 
+/// The place of the last entry that puts a key.
+pub fn newest_with(log: &[Commit], key: &[u8]) -> Option<usize>
+    ensures { MatchOption result (NoneIsWith key.now log.now) (λ place. IsLastWith key.now log.now place) }
+{
+    newest_from(log, 0, key)
+}
+
 /// Whether a key lies in a range.
 pub fn lies_in(range: &Range, key: &[u8]) -> bool
     ensures { result ≡ is_in range.now key.now }
 {
     contains(range, key)
+}
+
+// Whether a key lies in a part.
+fn lies_between(from: &[u8], upto: &Option<Bytes>, key: &[u8]) -> bool
+    ensures { result ≡ is_in (part_of from.now upto.now) key.now }
+{
+    if is_below(key, from) {
+        return false;
+    }
+    match upto {
+        Some(end) => is_below(key, end.as_slice()),
+        None => true,
+    }
 }
 
 // The lesser of the best key so far and a key.
@@ -49,28 +70,33 @@ fn lesser(best: Option<KeyBuf>, key: &[u8]) -> Option<KeyBuf>
 }
 
 // The least key of the range among the writes, and the best so far.
-fn least_among(best: Option<KeyBuf>, writes: &[Write], range: &Range) -> Option<KeyBuf>
+fn least_among(
+    best: Option<KeyBuf>,
+    writes: &[Write],
+    from: &[u8],
+    upto: &Option<Bytes>,
+) -> Option<KeyBuf>
     requires { AreShortWrites writes.now }
-    ensures { result ≡ least_with range.now best writes.now }
+    ensures { result ≡ least_with (part_of from.now upto.now) best writes.now }
 {
     let mut least = best;
     for write in writes {
         let key = write.key.as_slice();
-        if lies_in(range, key) {
+        if lies_between(from, upto, key) {
             least = lesser(least, key);
         }
     }
     least
 }
 
-/// The least key of the range that the entries put.
-pub fn least_key(log: &[Commit], range: &Range) -> Option<KeyBuf>
+// The least key of a part that the entries put.
+fn least_key(log: &[Commit], from: &[u8], upto: &Option<Bytes>) -> Option<KeyBuf>
     requires { AreShort log.now }
-    ensures { result ≡ least_of range.now None log.now }
+    ensures { result ≡ least_of (part_of from.now upto.now) None log.now }
 {
     let mut least = None;
     for commit in log {
-        least = least_among(least, commit.writes.as_slice(), range);
+        least = least_among(least, commit.writes.as_slice(), from, upto);
     }
     least
 }
@@ -92,15 +118,15 @@ pub fn puts_tombstone(writes: &[Write], key: &[u8]) -> bool
     writes.iter().any(|write| is_tombstone(write, key))
 }
 
-// The least key of the range that the entries from a place on put.
-fn least_from(log: &[Commit], from: usize, range: &Range) -> Option<KeyBuf>
+// The least key of a part that the entries from a place on put.
+fn least_after(log: &[Commit], place: usize, from: &[u8], upto: &Option<Bytes>) -> Option<KeyBuf>
     requires { AreShort log.now }
-    ensures { result ≡ least_of range.now None (drop from log.now) }
+    ensures { result ≡ least_of (part_of from.now upto.now) None (drop place log.now) }
 {
-    if from >= log.len() {
+    if place >= log.len() {
         return None;
     }
-    least_key(&log[from..], range)
+    least_key(&log[place..], from, upto)
 }
 
 // The entry at a place, as a refusal names it with a key.
@@ -117,15 +143,21 @@ fn met_at(log: &[Commit], place: usize, key: KeyBuf) -> Met
     }
 }
 
-/// What a check of a range finds: the least key of it that the commits above a snapshot and below a
+/// What a check of a part finds: the least key of it that the commits above a snapshot and below a
 /// commit number put, and the last one of them that put it.
-pub fn found_between(log: &[Commit], snapshot: usize, number: usize, range: &Range) -> Option<Met>
+pub fn found_between(
+    log: &[Commit],
+    snapshot: usize,
+    number: usize,
+    from: &[u8],
+    upto: &Option<Bytes>,
+) -> Option<Met>
     requires number { (0 < number) × (number ≤ length log.now + 1) }
     requires short { AreShort log.now }
-    ensures { MatchOption result (least_between snapshot number range.now log.now ≡ None) (λ met. IsMetBetween snapshot number range.now log.now met) }
+    ensures { MatchOption result (least_between snapshot number (part_of from.now upto.now) log.now ≡ None) (λ met. IsMetBetween snapshot number (part_of from.now upto.now) log.now met) }
 {
     let front = &log[..number - 1];
-    let Some(key) = least_from(front, snapshot, range) else {
+    let Some(key) = least_after(front, snapshot, from, upto) else {
         return None;
     };
     let Some(place) = newest_with(front, key.as_slice()) else {
@@ -134,17 +166,15 @@ pub fn found_between(log: &[Commit], snapshot: usize, number: usize, range: &Ran
     Some(met_at(log, place, key))
 }
 
-/// What a put of a key meets in the log: the last commit that put it, if that is above a snapshot.
+/// What a put of a key meets in the log: the last commit that put it, if that is above a snapshot. It looks at the commits
+/// above the snapshot alone.
 pub fn met_above(log: &[Commit], snapshot: usize, key: &[u8]) -> Option<Met>
     requires { length key.now ≤ 463 }
     ensures { MatchOption result (IsNoneAbove snapshot key.now log.now) (λ met. IsMetAbove snapshot key.now log.now met) }
 {
-    let Some(place) = newest_with(log, key) else {
+    let Some(place) = newest_from(log, snapshot, key) else {
         return None;
     };
-    if place < snapshot {
-        return None;
-    }
     Some(met_at(log, place, KeyBuf::from_slice(key)))
 }
 

@@ -6,7 +6,6 @@ use crate::commit::Commit;
 use crate::log::lies_in;
 use crate::{Cell, NoMemory, Write};
 use hc_range::{Bytes, Range, is_below};
-use sqlite_items::Items;
 use std::alloc::Global;
 
 // How many cells at the front have keys below a key.
@@ -80,12 +79,12 @@ fn set_cells(
 }
 
 /// The cells of a range after the entries of the log, in ascending order of keys.
-pub fn cells_after(alloc: Global, log: &[Commit], range: &Range) -> Result<Items<Cell>, NoMemory>
-    ensures { IfOk result (λ cells. cells ≡ cells_of range.now [] log.now) }
+pub fn cells_after(alloc: Global, log: &[Commit], range: &Range) -> Result<Vec<Cell>, NoMemory>
+    ensures { IfOk result (λ cells. cells.items ≡ cells_of range.now [] log.now) }
 {
     let mut cells = Vec::new(alloc);
     for commit in log {
         set_cells(alloc, &mut cells, commit.writes.as_slice(), range)?;
     }
-    Ok(Items::from_vec(cells))
+    Ok(cells)
 }

@@ -1,11 +1,10 @@
 // Questions to the open transactions of all connections.
-ghost use Rattle.std.specs.Prelude.{◌≡◌, ◌↔◌, ℕ, ◌<◌, ◌≤◌, ◌^◌, [], IsTrue, MatchOption, length, get_or, true, false};
+ghost use Rattle.std.specs.Prelude.{◌≡◌, ◌≢◌, ◌↔◌, ℕ, ◌<◌, ◌≤◌, ◌^◌, [], IsTrue, MatchOption, length, get_or, true, false};
 ghost use Rattle.hc_core.specs.Account.{HasWritten, WhenOpen, txns};
 ghost use Rattle.hc_core.specs.Machine.{Names};
 
 use crate::Met;
 use crate::conn::Conn;
-use crate::running::has_key;
 use hc_base::Tid;
 use hc_range::KeyBuf;
 
@@ -21,21 +20,24 @@ pub fn writer_in(conn: &Conn, key: &[u8]) -> Option<(u32, u32)>
     if running.place != 0 {
         return None;
     }
-    if !has_key(running.writes.as_slice(), key) {
+    if !running.writes.has(key) {
         return None;
     }
     Some((running.tid, running.ord))
 }
 
-/// The undecided transaction that has a key in its write set, if there is one.
-pub fn open_writer(conns: &[Conn], key: &[u8]) -> Option<Met>
+/// The undecided transaction of another connection that has a key in its write set, if there is one.
+pub fn open_writer(conns: &[Conn], own: u32, key: &[u8]) -> Option<Met>
     requires short { length key.now ≤ 463 }
     requires few { length conns.now < 2 ^ 32 }
     ensures { MatchOption result
-        ((i : ℕ) → WhenOpen (txns (get_or conns.now i [])) (λ t. (t.place ≡ 0) × HasWritten t key.now) → ⊥)
+        ((i : ℕ) → i ≢ own → WhenOpen (txns (get_or conns.now i [])) (λ t. (t.place ≡ 0) × HasWritten t key.now) → ⊥)
         (λ met. WhenOpen (txns (get_or conns.now met.conn [])) (λ t. (t.place ≡ 0) × HasWritten t key.now × Names met met.conn t key.now)) }
 {
     for conn in 0..conns.len() {
+        if conn == own as usize {
+            continue;
+        }
         if let Some((tid, ord)) = writer_in(&conns[conn], key) {
             return Some(Met {
                 tid: Tid(tid),

@@ -1,12 +1,12 @@
 -- A put with a key that is not there takes room besides that of all entries.
-use Rattle.std.proofs.Common.{◌≡◌, ◌≢◌, ℕ, zero, suc, ◌+◌, ◌/◌, ◌≤◌, List, [], ◌∷◌, ◌++◌, length, refl, sym, ap, subst, ◌∙◌, inl, inr, arith, length-append, true, false}
+use Rattle.std.proofs.Common.{◌≡◌, ◌≢◌, ℕ, ◌+◌, List, [], ◌∷◌, length, refl, ap, ◌∙◌, inl, inr, arith, length-append, false}
 use Rattle.std.specs.List.{All, filter}
 use Rattle.std.proofs.lemmas.List.Elements.{All-head, All-tail}
 use Rattle.hc_range.specs.Order.{is_below}
 use Rattle.hc_range.proofs.ByteOrder.{order_total, below_flip}
 use Rattle.hc_base.specs.Content.{Content, Entry}
 use Rattle.hc_base.specs.Layout.{entry_words, all_words, used_words, low_words, fence_words}
-use Rattle.hc_page.specs.Puts.{put_entry, with_entry}
+use Rattle.hc_page.specs.Puts.{with_entry}
 use Rattle.hc_page.proofs.Entries.{all_words-split}
 use Rattle.hc_engine_tests.specs.Four.{HasFour}
 

@@ -1,5 +1,5 @@
 -- Two pages written out by hand, word by word, from the table of the layout.
-use Rattle.std.specs.Prelude.{ℕ, List, [], ◌∷◌, ◌++◌, replicate, Some, None}
+use Rattle.std.specs.Prelude.{ℕ, List, [], ◌∷◌, replicate, Some, None}
 use Rattle.hc_base.specs.Content.{Content, Version, Child}
 
 -- A leaf of number 5, with number 9 at its right, for the keys from "b" up to, and without, "m". Its entries: "cat",

@@ -2,7 +2,7 @@
 use Rattle.std.specs.Prelude.{◌≡◌, ◌≢◌, ℕ, List, [], length, None}
 use Rattle.std.specs.List.{All}
 use Rattle.hc_base.specs.Content.{Content}
-use Rattle.hc_base.specs.Layout.{IsPage, entry_words, all_words}
+use Rattle.hc_base.specs.Layout.{IsPage, all_words}
 
 pub record HasFour (words : List ℕ) (key : List ℕ) (c : Content) : Type 0 where
   pub page : IsPage words c

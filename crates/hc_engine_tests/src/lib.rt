@@ -2,4 +2,7 @@
 #![tactic(auto)]
 
 mod by_hand;
+mod hand_pages;
+mod leaves;
+mod pool;
 mod room;

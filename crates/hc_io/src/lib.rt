@@ -8,6 +8,7 @@
 //! bytes: what a file or a terminal carries is not proved.
 #![tactic(auto)]
 
+mod counted;
 mod listed;
 mod memory_sink;
 mod memory_source;

@@ -2,6 +2,7 @@
 ghost use Rattle.std.specs.Prelude.{◌≡◌, ◌+◌, ◌-◌, ◌<◌, ◌≤◌, ◌⊎◌, ◌++◌, ◌↔◌, [], min, max, length, take, Some, IsErr, IfOk, OnOk, OnErr, Contains, vec_len, vec_capacity};
 ghost use Rattle.hc_io.specs.Faults.{HasCause, one_more};
 
+use crate::counted::counted;
 use crate::listed::is_listed;
 use crate::{Failed, Sink};
 use hc_range::NoMemory;
@@ -79,8 +80,7 @@ impl Sink for MemSink {
         self.calls = self.calls.saturating_add(1);
         let is_full = self.room == 0 && !piece.is_empty();
         if is_full || is_listed(&self.fails, self.calls) {
-            self.faults = self.faults.saturating_add(1);
-            return Err(Failed);
+            return Err(counted(&mut self.faults));
         }
         let most = self.step.max(1).min(self.room);
         let count = piece.len().min(most as usize);

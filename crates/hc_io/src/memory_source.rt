@@ -4,6 +4,7 @@ ghost use Rattle.hc_io.specs.Faults.{HasCause, one_more};
 ghost use Rattle.hc_io.specs.Memory.{left_in, sure_left_in};
 ghost use Rattle.hc_io.specs.Transfer.{Reads};
 
+use crate::counted::counted;
 use crate::listed::is_listed;
 use crate::{Failed, Source};
 use hc_range::Bytes;
@@ -85,8 +86,7 @@ impl Source for MemSource {
     {
         self.calls = self.calls.saturating_add(1);
         if is_listed(&self.fails, self.calls) {
-            self.faults = self.faults.saturating_add(1);
-            return Err(Failed);
+            return Err(counted(&mut self.faults));
         }
         Ok(read_on(self.bytes.as_slice(), &mut self.at, buffer))
     }

@@ -9,6 +9,7 @@ ghost use Rattle.std.specs.Io.KnownBytes.{ReadConsumes, WriteAppends};
 ghost use Rattle.hc_io.specs.Faults.{HasCause, one_more};
 ghost use Rattle.hc_io.specs.Standard.{reader_of, writer_of, failed_reads, failed_writes};
 
+use crate::counted::counted;
 use crate::{Failed, Sink, Source};
 use std::io::{Read, Write};
 
@@ -66,10 +67,7 @@ impl<R: Read> Source for StdSource<R> {
     {
         match self.reader.read(buffer) {
             Ok(count) => Ok(count),
-            Err(_) => {
-                self.faults = self.faults.saturating_add(1);
-                Err(Failed)
-            }
+            Err(_) => Err(counted(&mut self.faults)),
         }
     }
 }
@@ -94,10 +92,7 @@ impl<W: Write> Sink for StdSink<W> {
     {
         match self.writer.write(piece) {
             Ok(count) if count > 0 || piece.is_empty() => Ok(count),
-            _ => {
-                self.faults = self.faults.saturating_add(1);
-                Err(Failed)
-            }
+            _ => Err(counted(&mut self.faults)),
         }
     }
 }

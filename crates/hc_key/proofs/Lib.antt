@@ -1,5 +1,6 @@
 mod Bytes
 mod Contents
+mod Lengths
 mod Order
 mod Parts
 mod Prefix

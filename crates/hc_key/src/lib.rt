@@ -15,10 +15,12 @@ mod content;
 mod fault;
 mod key;
 pub mod laws;
+mod length;
 mod reader;
 mod reading;
 mod value;
 
 pub use fault::KeyFault;
 pub use key::{key_of, prefix_range};
+pub use length::key_len;
 pub use reading::values_of;

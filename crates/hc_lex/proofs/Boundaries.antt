@@ -29,7 +29,7 @@ use Rattle.hc_lex.proofs.Classes.{past_ascii_is_letter}
 use Rattle.hc_lex.proofs.Lengths.{part_length}
 use Rattle.hc_lex.proofs.SpansSoFar.{filter_map-continued, last_after, range, spans_from, spans_from-blank, spans_from-end, spans_from-nothing, spans_from-own}
 
--- a character past ASCII, or a part of one, stands in front
+-- a character past ASCII, or a part of one, is in front
 abbrev pub BeginsPastAscii : List ℕ → Type 0
 BeginsPastAscii bytes = Begins (λ b. 128 ≤ b) bytes
 
@@ -78,7 +78,7 @@ blank_begins text rest (inr (inl (inner, e, is, ends))) past = headed 45 (text +
 blank_begins text rest (inr (inr (inner, none, inl e))) past = headed 47 (text ++ rest) _ (ap (λ t. t ++ rest) e) (omega arith) past
 blank_begins text rest (inr (inr (inner, none, inr (e, ends)))) past = headed 47 (text ++ rest) _ (ap (λ t. t ++ rest) e) (omega arith) past
 
--- what stands in quotes ends cleanly, and so do signs of one and of two characters
+-- what is in quotes ends cleanly, and so do signs of one and of two characters
 quoted_ends : (quote : ℕ) (text rest : List ℕ) → quote < 128 → IsQuoted quote text rest → EndsCleanly text rest
 quoted_ends quote text rest small is = inr (quote ∷ doubled quote is.0, quote, small, is.1)
 
@@ -116,7 +116,7 @@ token_ends kind.NotEqual text rest is = two_signs 33 61 text rest (omega arith) 
 token_ends kind.DoubleBar text rest is = two_signs 124 124 text rest (omega arith) is
 token_ends kind.Semicolon text rest is = one_sign 59 text rest (omega arith) is
 
--- a token and what stands between tokens end cleanly
+-- a token and what is between tokens end cleanly
 lexeme_ends : (k : Option TokenKind) (text rest : List ℕ) → IsTokenOrBlank k text rest → EndsCleanly text rest
 lexeme_ends None text rest is = blank_ends text rest is
 lexeme_ends (Some k) text rest is = token_ends k text rest is
@@ -179,32 +179,32 @@ with_span : (text : List ℕ) (place : ℕ) (places : List ℕ) (spans : List Sp
 with_span text place places spans first last later = ((first, last), later)
 
 -- what is known at the place `at`: it is one between characters, or a statement goes on there
-abbrev pub Stands : List ℕ → List ℕ → ℕ → Type 0
-Stands text [] at = IsCharBoundary text at
-Stands text (place ∷ places) at = GoesOnFrom text place places at
+abbrev pub IsOpenAt : List ℕ → List ℕ → ℕ → Type 0
+IsOpenAt text [] at = IsCharBoundary text at
+IsOpenAt text (place ∷ places) at = GoesOnFrom text place places at
 
 -- what is known at a place stays known after a blank
-blank_status : (text places : List ℕ) (at tail : ℕ) → IsCharBoundary text at → IsCharBoundary text tail → Stands text places at → Stands text places tail
+blank_status : (text places : List ℕ) (at tail : ℕ) → IsCharBoundary text at → IsCharBoundary text tail → IsOpenAt text places at → IsOpenAt text places tail
 blank_status text [] at tail here next is = next
 blank_status text (place ∷ places) at tail here next is = record { first = is.first; last = inr (ends_at text place places at is here) }
 
 -- after bytes of a statement, a statement goes on there
-own_status : (text places : List ℕ) (n at : ℕ) → 0 < n → Stands text places at → Stands text (places ++ range at n) (at + n)
+own_status : (text places : List ℕ) (n at : ℕ) → 0 < n → IsOpenAt text places at → IsOpenAt text (places ++ range at n) (at + n)
 own_status text places zero at some is = absurd (omega arith)
 own_status text [] (suc n) at some is = record { first = is; last = inl (last_after 0 [] at n) }
 own_status text (place ∷ places) (suc n) at some is = record { first = is.first; last = inl (last_after place places at n) }
 
--- where a statement ends, or none stands, its span lies at characters with those after it
-ended : (text places : List ℕ) (at : ℕ) (spans : List Span) → IsCharBoundary text at → Stands text places at → SpansAtCharacters text spans → SpansAtCharacters text (option_to_list (span_of places) ++ spans)
+-- where a statement ends, or none is open, its span lies at characters with those after it
+ended : (text places : List ℕ) (at : ℕ) (spans : List Span) → IsCharBoundary text at → IsOpenAt text places at → SpansAtCharacters text spans → SpansAtCharacters text (option_to_list (span_of places) ++ spans)
 ended text [] at spans here is later = later
 ended text (place ∷ places) at spans here is later = with_span text place places spans is.first (ends_at text place places at is here) later
 
 -- the spans from here on lie at characters, whatever statement goes on here
 abbrev Later : List ℕ → List ℕ → List Part → Type 0
-Later text front more = (places : List ℕ) → Stands text places (length front) → SpansAtCharacters text (spans_from (length front) places more)
+Later text front more = (places : List ℕ) → IsOpenAt text places (length front) → SpansAtCharacters text (spans_from (length front) places more)
 
 -- the spans from a piece on lie at characters where those after it do
-step : (text front : List ℕ) (k : Part) (t tail places : List ℕ) (more : List Part) → IsUtf8 text → text ≡ front ++ (t ++ tail) → IsPart k t tail → Stands text places (length front) → Later text (front ++ t) more
+step : (text front : List ℕ) (k : Part) (t tail places : List ℕ) (more : List Part) → IsUtf8 text → text ≡ front ++ (t ++ tail) → IsPart k t tail → IsOpenAt text places (length front) → Later text (front ++ t) more
     → SpansAtCharacters text (spans_from (length front) places (replicate (length t) k ++ more))
 step text front Blank t tail places more utf8 e is here later =
     let before : IsCharBoundary text (length front) = boundary_before text front (t ++ tail) e (blank_begins t tail is) in
@@ -216,7 +216,7 @@ step text front Statement t tail places more utf8 e is here later =
     subst (λ spans. SpansAtCharacters text spans)
     (ap (λ k. spans_from k (places ++ range (length front) (length t)) more) (length-append front t) ∙ sym (spans_from-own (length t) (length front) places more))
     (later (places ++ range (length front) (length t))
-    (subst (λ k. Stands text (places ++ range (length front) (length t)) k) place (own_status text places (length t) (length front) (part_length Statement t tail is) here)))
+    (subst (λ k. IsOpenAt text (places ++ range (length front) (length t)) k) place (own_status text places (length t) (length front) (part_length Statement t tail is) here)))
 step text front Separator t tail places more utf8 e is here later =
     let before : IsCharBoundary text (length front) = boundary_before text front (t ++ tail) e (headed 59 (t ++ tail) tail (ap (λ x. x ++ tail) is) (omega arith)) in
     let next : IsCharBoundary text (length (front ++ t)) = subst (λ k. IsCharBoundary text k) (sym (length-append front t)) (boundary_after text front t tail utf8 e (one_sign 59 t tail (omega arith) is)) in
@@ -227,7 +227,7 @@ step text front Separator t tail places more utf8 e is here later =
     (ended text places (length front) (spans_from (length front + 1) [] more) before here (subst (λ k. SpansAtCharacters text (spans_from k [] more)) place (later [] next)))
 
 -- the spans of the pieces from a place on lie at characters
-spans_at : (text front places : List ℕ) (ps : List (Piece Part)) (bytes : List ℕ) → IsUtf8 text → text ≡ front ++ bytes → Stands text places (length front) → Front IsPart ps bytes [] → SpansAtCharacters text (spans_from (length front) places (parts_of ps))
+spans_at : (text front places : List ℕ) (ps : List (Piece Part)) (bytes : List ℕ) → IsUtf8 text → text ≡ front ++ bytes → IsOpenAt text places (length front) → Front IsPart ps bytes [] → SpansAtCharacters text (spans_from (length front) places (parts_of ps))
 spans_at text front places [] bytes utf8 e here is =
     let end : IsCharBoundary text (length front) = boundary_before text front [] (e ∙ ap (λ r. front ++ r) is) (λ past. past) in
     subst (λ spans. SpansAtCharacters text spans) (append-nil (option_to_list (span_of places)) ∙ sym (spans_from-nothing (length front) places))
@@ -235,7 +235,7 @@ spans_at text front places [] bytes utf8 e here is =
 spans_at text front places (p ∷ ps) bytes utf8 e here is =
     let whole : text ≡ front ++ (p.text ++ is.0) = e ∙ ap (λ r. front ++ r) is.1 in
     step text front p.kind p.text is.0 places (parts_of ps) utf8 whole is.2 here
-    (λ next stands. spans_at text (front ++ p.text) next ps is.0 utf8 (whole ∙ sym (append_assoc front p.text is.0)) stands is.3)
+    (λ next begun. spans_at text (front ++ p.text) next ps is.0 utf8 (whole ∙ sym (append_assoc front p.text is.0)) begun is.3)
 
 -- each statement begins and ends between characters of its text
 pub statements_lie_at : StatementsLieAtCharacters

@@ -47,6 +47,25 @@ sign_answer false false false false true g e = cc
 sign_answer false false false false false true e = refl
 sign_answer false false false false false false e = cc
 
+space_answer : (s l d m q g : Bool) → class_by s l d m q g ≡ Space → s ≡ true
+space_answer true l d m q g e = refl
+space_answer false true d m q g e = cc
+space_answer false false true m q g e = cc
+space_answer false false false true q g e = cc
+space_answer false false false false true g e = cc
+space_answer false false false false false true e = cc
+space_answer false false false false false false e = cc
+
+-- what is of the class of spaces passes as a space
+pub space_class : (b : ℕ) → class_of b ≡ Space → is_space b ≡ true
+unfolding class_of
+space_class b e = space_answer _ _ _ _ _ _ e
+
+-- what passes as a space is of the class of spaces
+pub space_has_class : (b : ℕ) → is_space b ≡ true → class_of b ≡ Space
+unfolding class_of
+space_has_class b e = ap (λ s. class_by s (is_letter b) (is_ascii_digit b) (b == 36) (b == 34 || b == 39) (is_sign b)) e
+
 -- what is of the class of digits is a digit of ASCII
 pub digit_class : (b : ℕ) → class_of b ≡ Digit → is_ascii_digit b ≡ true
 unfolding class_of

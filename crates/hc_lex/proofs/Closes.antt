@@ -1,4 +1,4 @@
--- A block comment, read up to a place: no `*/` has stood there so far.
+-- A block comment, read up to a place: no `*/` was there so far.
 use Rattle.std.proofs.Common.{◌≡◌, ◌∙◌, ℕ, List, [], ◌∷◌, ◌++◌, refl, sym, ap, subst, inl, inr, append_assoc}
 use Rattle.std.specs.Prelude.{⊤}
 use Rattle.hc_lex.specs.Blanks.{HasNoClose, IsBlank}
@@ -25,7 +25,7 @@ begins_in_more : (front rest : List ℕ) → BeginsWith 47 front → BeginsWith 
 begins_in_more [] rest h = absurd h
 begins_in_more (b ∷ front) rest h = h
 
--- where no `*/` begins in some bytes, none stands in them
+-- where no `*/` begins in some bytes, none is in them
 has_no_close : (inner rest : List ℕ) → HasNoCloseUpTo inner rest → HasNoClose inner
 has_no_close [] rest h = tt
 has_no_close (b ∷ inner) rest h = (λ p. h.0 (p.0, begins_in_more inner rest p.1), has_no_close inner rest h.1)

@@ -50,7 +50,7 @@ run_ends k (b ∷ bytes) = end_once k b (after_run k bytes) bytes (is_in k b) re
 begins_run : (k : Run) (bytes : List ℕ) → BeginsRun k bytes (run_of k bytes) (after_run k bytes)
 begins_run k bytes = (sym (run-split k bytes), run_is_run k bytes, run_ends k bytes)
 
--- this byte stands in front or not
+-- this byte is in front or not
 begins_tells : (b : ℕ) (bytes : List ℕ) → ((more : List ℕ) × (bytes ≡ b ∷ more)) ⊎ (¬ BeginsWith b bytes)
 begins_tells b [] = inr (λ h. h)
 begins_tells b (first ∷ bytes) = elim (eqb_tells first b) [ inl is ↦ inl (bytes, ap (λ x. x ∷ bytes) is.1) | inr isnt ↦ inr (λ e. isnt.1 e) ]
@@ -81,7 +81,7 @@ comment_ends bytes (b ∷ tail) s = elim (eqb_tells b 42) [
   | inr isnt ↦ comment_ends bytes tail (no_close_more bytes (b ∷ tail) b tail s refl (λ p. isnt.1 p.0))
 ]
 
--- a lexeme begins here, or a fault stands here
+-- a lexeme begins here, or a fault is here
 abbrev pub HasFirst : List ℕ → Type 0
 HasFirst bytes = ((k : Option TokenKind) × (rest : List ℕ) × Skips (IsTokenOrBlank k) bytes rest) ⊎ ((fault : LexKind) × (offset : ℕ) × IsFlaw fault offset bytes)
 

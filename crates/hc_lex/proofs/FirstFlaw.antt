@@ -29,7 +29,7 @@ flaw_in Quote b bytes = (OpenText, 0)
 flaw_in Sign b bytes = (Char, 0)
 flaw_in Other b bytes = (Char, 0)
 
--- the fault that stands at the front, where one does
+-- the fault that is at the front, where one does
 unfoldable pub first_flaw : List ℕ → LexKind × ℕ
 first_flaw [] = (Char, 0)
 first_flaw (b ∷ bytes) = flaw_in (class_of b) b bytes
@@ -159,7 +159,7 @@ after_the_quote : (bytes : List ℕ) → begins_byte 39 bytes ≡ true → bytes
 after_the_quote [] e = absurd (false≢true e)
 after_the_quote (b ∷ bytes) e = ap (λ x. x ∷ bytes) (eqb-true b 39 e)
 
--- where no blob stands in front, none is found
+-- where no blob is in front, none is found
 no_blob : (mark : ℕ) (tail : List ℕ) → IsBlobMark mark → ((text rest : List ℕ) → IsBlob text → mark ∷ 39 ∷ tail ≢ text ++ rest) → blob_in tail ≡ None
 no_blob mark tail is ne =
     let digits : List ℕ = run_of run.Blob tail in
@@ -189,12 +189,12 @@ flaw_found BadBlob offset bytes (e, (mark, tail, is, whole), ne) =
     moved BadBlob offset 0 bytes (mark ∷ 39 ∷ tail) e whole (blob_flaw mark tail is (λ text rest blob same. ne text rest blob (whole ∙ same)))
 flaw_found TooLarge offset bytes (e, digits, rest, begins, high) = moved TooLarge offset 0 bytes (digits ++ rest) e begins.0 (large_found digits rest begins.1 high)
 
--- no fault stands at the end of a text
+-- no fault is at the end of a text
 nothing_begins : (digits rest : List ℕ) → BeginsDigits [] digits rest → ⊥
 nothing_begins [] rest begins = begins.1.0 refl
 nothing_begins (b ∷ digits) rest begins = let e : [] ≡ b ∷ digits ++ rest = begins.0 in cc
 
--- no fault stands where the text ends
+-- no fault is where the text ends
 pub no_flaw_at_end : (k : LexKind) (offset : ℕ) → IsFlaw k offset [] → ⊥
 no_flaw_at_end Char offset (inl (e, stray)) = stray
 no_flaw_at_end Char offset (inr (digits, rest, begins, fits, spoils, e)) = nothing_begins digits rest begins

@@ -1,4 +1,4 @@
--- What stands in quotes, read up to a place.
+-- What is in quotes, read up to a place.
 use Rattle.std.proofs.Common.{◌≡◌, ◌≢◌, ◌∙◌, ℕ, List, [], ◌∷◌, ◌++◌, refl, sym, ap, append_assoc}
 use Rattle.std.proofs.lemmas.List.{append-nil}
 use Rattle.hc_lex.specs.Characters.{BeginsWith}
@@ -7,12 +7,12 @@ use Rattle.hc_lex.specs.Quotes.{IsOpenQuoted, IsQuoted}
 use Rattle.hc_text.specs.Quotes.{doubled, doubled_one}
 use Rattle.hc_text.proofs.Doubled.{doubled_more, doubled_other, doubled_quote}
 
--- the bytes were read up to `rest`, and stand within the quotes
+-- the bytes were read up to `rest`, and are within the quotes
 pub record QuotedSoFar (quote : ℕ) (bytes rest : List ℕ) : Type 0 where
   pub inner : List ℕ
   pub whole : bytes ≡ doubled quote inner ++ rest
 
--- where nothing was read, all that was read stands within the quotes
+-- where nothing was read, all that was read is within the quotes
 pub quoted_at_start : (quote : ℕ) (bytes : List ℕ) → QuotedSoFar quote bytes bytes
 quoted_at_start quote bytes = record { inner = []; whole = refl }
 

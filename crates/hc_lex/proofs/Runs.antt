@@ -25,7 +25,7 @@ run_is_one k (x ∷ a) r (y ∷ b) s e in_a in_b end_r end_s =
 pub quote_is_no_hex : (rest : List ℕ) → ¬ GoesOn run.Blob (39 ∷ rest)
 quote_is_no_hex rest h = cc
 
--- the hexadecimal digits of a blob are all that stand there
+-- the hexadecimal digits of a blob are all that are there
 pub blob_digits : (bytes digits rest other after : List ℕ) → BeginsRun run.Blob bytes digits rest → IsRun run.Blob other → bytes ≡ other ++ 39 ∷ after → (digits ≡ other) × (rest ≡ 39 ∷ after)
 blob_digits bytes digits rest other after is is_other e =
     run_is_one run.Blob digits rest other (39 ∷ after) (sym is.0 ∙ e) is.1 is_other is.2 (quote_is_no_hex after)

@@ -8,8 +8,9 @@ use Rattle.hc_lex.specs.declared.part.Part.{Part}
 use Rattle.hc_lex.specs.declared.part.Part.TheVariants.{Blank, Statement, Separator}
 use Rattle.hc_lex.specs.declared.statements.Span.{Span}
 use Rattle.hc_lex.specs.Pieces.{Piece, Front, Skips}
-use Rattle.hc_lex.specs.Statements.{HasStatements, IsPart, groups_of, last_of, parts_of, span_of, with_place}
+use Rattle.hc_lex.specs.Statements.{AreOrdinary, HasStatements, IsPart, groups_of, last_of, parts_of, span_of, with_place}
 use Rattle.hc_lex.proofs.Fronts.{Front-push, Front-size, piece, size_of}
+use Rattle.hc_lex.proofs.PartLemmas.{ordinary_byte}
 
 -- places in front of the first group
 abbrev pub continued : List ℕ → List (List ℕ) → List (List ℕ)
@@ -51,7 +52,7 @@ spans_from-own (suc n) at places more =
     ∙ ap (λ k. spans_from k ((places ++ at ∷ []) ++ range (at + 1) n) more) (let e : at + 1 + n ≡ at + suc n = omega arith in e)
     ∙ ap (λ ps. spans_from (at + suc n) ps more) (append_assoc places (at ∷ []) (range (at + 1) n))
 
--- at the end of a statement stands its span, and none goes on after it
+-- at the end of a statement is its span, and none goes on after it
 pub spans_from-end : (at : ℕ) (places : List ℕ) (more : List Part) → spans_from at places (Separator ∷ more) ≡ option_to_list (span_of places) ++ spans_from (at + 1) [] more
 spans_from-end at places more =
     ap (λ ps. filter_map span_of (ps ∷ groups_of (at + 1) more)) (append-nil places)
@@ -162,6 +163,20 @@ own_read bytes rest tail found unfinished span from to s skips from_is to_is spa
           ∙ ap (λ spans. found ++ spans) (spans_from-own (length skips.0) (size_of s.pieces) s.places more
           ∙ ap (λ k. spans_from k (s.places ++ range (size_of s.pieces) (length skips.0)) more) (sym (size_of-push s.pieces p)));
     }
+
+-- with ordinary bytes more, the one that goes on ends after them
+pub ordinary_read : (word bytes rest tail : List ℕ) (found : List Span) (before span : Span) → SpansSoFar bytes rest found (Some before) → rest ≡ word ++ tail → AreOrdinary word
+    → before.to ≡ length bytes - length rest → span.from ≡ before.from → span.to ≡ length bytes - length tail → SpansSoFar bytes tail found (Some span)
+ordinary_read [] bytes rest tail found before span s e is ends from to =
+    let same : span ≡ before = same_span span before.from before.to from (to ∙ ap (λ r. length bytes - length r) (sym e) ∙ sym ends) in
+    subst (λ r. SpansSoFar bytes r found (Some span)) e (subst (λ x. SpansSoFar bytes rest found (Some x)) (sym same) s)
+ordinary_read (b ∷ word) bytes rest tail found before span s e is ends from to =
+    let next : Span = record { from = before.from; to = length bytes - length (word ++ tail) } in
+    let skips : Skips (IsPart Statement) rest (word ++ tail) = subst (λ r. Skips (IsPart Statement) r (word ++ tail)) (sym e) (ordinary_byte b (word ++ tail) is.0) in
+    let moves : length (word ++ tail) < length rest = omega (arith, ap length e) in
+    ordinary_read word bytes (word ++ tail) tail found next span
+    (own_read bytes rest (word ++ tail) found (Some before) next (length bytes - length rest) (length bytes - length (word ++ tail)) s skips refl refl refl refl moves)
+    refl is.1 refl from to
 
 -- with the end of a statement more, the one that went on has ended
 pub end_read : (bytes rest tail : List ℕ) (found more : List Span) (unfinished : Option Span) → SpansSoFar bytes rest found unfinished → Skips (IsPart Separator) rest tail → more ≡ found ++ option_to_list unfinished → SpansSoFar bytes tail more None

@@ -21,7 +21,7 @@ abbrev pub BeginsStatement : List (Piece Part) → Type 0
 BeginsStatement [] = ⊥
 BeginsStatement (p ∷ ps) = p.kind ≡ Statement
 
--- parts of a statement stand in the text at these places
+-- parts of a statement are in the text at these places
 pub record IsStatementAt (text : List ℕ) (from to : ℕ) : Type 0 where
   pub before : List ℕ
   pub bytes : List ℕ

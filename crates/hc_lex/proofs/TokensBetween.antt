@@ -104,7 +104,7 @@ pub fault_after : (text : List ℕ) (from : ℕ) (rest : List ℕ) (place at off
     → at ≡ length text - length rest → place ≡ at + offset → HasFaultAfter text from (Bad place kind)
 fault_after text from rest place at offset kind within (ps, front, none) flaw at_is place_is =
     let far : from + size_of ps + length rest ≡ length text = reach text from ps rest within front in
-    (ps, rest, offset, front, flaw, omega arith)
+    (rest, offset, (ps, front, none), flaw, omega arith)
 
 -- where nothing was read, no token is between
 pub none_between : (text : List ℕ) (tokens : List Token) → tokens ≡ [] → HasTokensBetween text 0 0 tokens
@@ -150,6 +150,6 @@ read_first text tokens read at (qs, all, e) (ps, front, e', low, within) =
 
 -- a fault after tokens is one of the text
 pub faulty : FaultAfterTokens
-faulty text at tokens (Bad place kind) (ps, front, e, low, within) (qs, rest, offset, later, flaw, place_is) =
+faulty text at tokens (Bad place kind) (ps, front, e, low, within) (rest, offset, (qs, later, none), flaw, place_is) =
     (ps ++ qs, rest, offset, Front-append IsTokenOrBlank ps qs text (drop at text) rest front later, flaw, place_is)
 faulty text at tokens NoMemory between fault = tt

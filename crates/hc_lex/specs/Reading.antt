@@ -44,9 +44,9 @@ IsNextToken text from (Some token) = HasTokensBetween text from token.to (token 
 abbrev pub HasTokens : List ℕ → List Token → Type 0
 HasTokens text tokens = (pieces : List (Piece (Option TokenKind))) × Front IsTokenOrBlank pieces text [] × (tokens ≡ tokens_of 0 pieces)
 
--- After a place there are tokens, spaces and comments up to `rest`, where none begins.
+-- After a place there are spaces and comments up to `rest`, and there no token begins.
 abbrev pub HasFaultAfter : List ℕ → ℕ → LexFault → Type 0
-HasFaultAfter text from (Bad at kind) = (pieces : List (Piece (Option TokenKind))) × (rest : List ℕ) × (offset : ℕ) × Front IsTokenOrBlank pieces (drop from text) rest
+HasFaultAfter text from (Bad at kind) = (rest : List ℕ) × (offset : ℕ) × AreBlanks (drop from text) rest
     × IsFlaw kind offset rest × (at + length rest ≡ length text + offset)
 HasFaultAfter text from NoMemory = ⊥
 

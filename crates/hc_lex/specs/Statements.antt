@@ -2,12 +2,13 @@
 --
 -- A `;` outside literals, quoted names and comments ends a statement, as SQLite's lang.html has it. Where a
 -- statement's bytes begin and end is a rule of our own.
-use Rattle.std.specs.Prelude.{◌≡◌, ◌≢◌, ◌⊎◌, ℕ, ◌+◌, List, [], ◌∷◌, length, Option, Some, None, codes, replicate}
-use Rattle.std.specs.List.{flat_map, filter_map}
+use Rattle.std.specs.Prelude.{◌≡◌, ◌≢◌, ◌⊎◌, ℕ, ◌+◌, List, [], ◌∷◌, length, Option, Some, None, codes, replicate, Bool, true, not, ◌||◌, ◌==◌}
+use Rattle.std.specs.List.{AllByRecursion, flat_map, filter_map}
 use Rattle.hc_lex.specs.declared.part.Part.{Part}
 use Rattle.hc_lex.specs.declared.part.Part.TheVariants.{Blank, Statement, Separator}
 use Rattle.hc_lex.specs.declared.statements.Span.{Span}
 use Rattle.hc_lex.specs.Blanks.{BeginsNoBlank, IsBlank}
+use Rattle.hc_lex.specs.Characters.{is_space}
 use Rattle.hc_lex.specs.Pieces.{Piece, Front}
 use Rattle.hc_lex.specs.Quotes.{IsOpenQuoted, IsQuote, IsQuoted}
 
@@ -19,6 +20,14 @@ IsLiteral text rest = (quote : ℕ) × IsQuote quote × (IsQuoted quote text res
 -- any other byte that is no space, begins no comment and ends no statement
 abbrev pub IsPlain : ℕ → List ℕ → Type 0
 IsPlain b rest = BeginsNoBlank (b ∷ rest) × ¬ IsQuote b × (b ≢ 59)
+
+-- a byte that is so whatever follows it: it ends no statement, and begins neither a space nor a comment nor a quote
+abbrev pub is_ordinary : ℕ → Bool
+is_ordinary b = not (is_space b || b == 34 || b == 39 || b == 45 || b == 47 || b == 59)
+
+-- each of these
+abbrev pub AreOrdinary : List ℕ → Type 0
+AreOrdinary text = AllByRecursion (λ b. is_ordinary b ≡ true) text
 
 -- `text` is such a part, where `rest` follows it
 abbrev pub IsPart : Part → List ℕ → List ℕ → Type 0

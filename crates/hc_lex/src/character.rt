@@ -40,6 +40,7 @@ pub fn class_of(b: u8) -> Class
 }
 
 /// Whether a byte belongs to a run.
+#[inline(always)]
 pub fn is_in(run: Run, b: u8) -> bool
     ensures { result ≡ is_in run b }
 {
@@ -52,6 +53,7 @@ pub fn is_in(run: Run, b: u8) -> bool
 }
 
 /// The longest run in front, which may be empty, and what follows it.
+#[inline(always)]
 pub fn split_run(run: Run, bytes: &[u8]) -> (&[u8], &[u8])
     ensures { BeginsRun run bytes.now result.0.now result.1.now }
 {

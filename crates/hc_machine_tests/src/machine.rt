@@ -4,7 +4,7 @@
 ghost use Rattle.std.specs.Prelude.{◌≤◌, IfOk, length};
 ghost use Rattle.hc_core.specs.Kept.{PutsShortKey};
 
-use hc_core::{Core, Event, NoMemory, Outcome};
+use hc_core::{Event, EventMachine, NoMemory, Outcome};
 use hc_range::Bytes;
 use std::alloc::Global;
 use std::test::Fail;
@@ -25,7 +25,7 @@ enum Do {
     Purge(u32),
 }
 
-fn bytes(alloc: Global, number: u32) -> Result<Bytes, NoMemory>
+pub fn bytes(alloc: Global, number: u32) -> Result<Bytes, NoMemory>
     ensures { IfOk result (λ bytes. length bytes ≤ 463) }
 {
     let zeros = match number {
@@ -37,7 +37,7 @@ fn bytes(alloc: Global, number: u32) -> Result<Bytes, NoMemory>
     Bytes::from_slice(alloc, &number.to_be_bytes()[zeros..])
 }
 
-fn end(alloc: Global, end: u32) -> Result<Option<Bytes>, NoMemory> {
+pub fn end(alloc: Global, end: u32) -> Result<Option<Bytes>, NoMemory> {
     match end {
         0 => Ok(None),
         end => Ok(Some(bytes(alloc, end)?)),
@@ -88,7 +88,7 @@ fn event(alloc: Global, what: Do) -> Result<Event, NoMemory>
     })
 }
 
-fn push_bytes(alloc: Global, text: &mut String, bytes: &[u8]) -> Result<(), Fail> {
+pub fn push_bytes(alloc: Global, text: &mut String, bytes: &[u8]) -> Result<(), Fail> {
     for byte in bytes {
         text.push_str(format!(in alloc; "{byte:02x}")?.as_str())?;
     }
@@ -646,9 +646,9 @@ fn each_event_is_answered_by_the_table(rt: HostRuntime) -> Result<(), Fail> {
         MANY_CONNECTIONS,
     ];
     for run in runs {
-        let mut core = Core::new(alloc, u32::from(run.others) + 1)?;
+        let mut machine = EventMachine::new(alloc, u32::from(run.others) + 1)?;
         for (what, wanted) in run.events {
-            let outcome = core.step(&event(alloc, *what)?)?;
+            let outcome = machine.step(&event(alloc, *what)?)?;
             assert_eq!(rt; answer(alloc, &outcome)?.as_str(), *wanted);
         }
     }

@@ -1,7 +1,7 @@
 -- Where a page's fences are.
 use Rattle.std.proofs.Common.{◌≡◌, ℕ, zero, suc, ◌+◌, ◌-◌, ◌*◌, ◌/◌, ◌%◌, ◌^◌, ◌<◌, ◌≤◌, List, [], ◌∷◌, ◌++◌, length, drop, get_or, refl, sym, ap, subst, ◌∙◌, arith, Option, Some, None, length-append, append-nil}
 use Rattle.std.specs.Prelude.{replicate}
-use Rattle.std.proofs.lemmas.List.{get_or-drop, get_or_append_left, length-map}
+use Rattle.std.proofs.lemmas.List.{get_or-drop, get_or_append_left, length-map, length-replicate}
 use Rattle.std.proofs.Math.Seq.{drop-append-add}
 use Rattle.hc_base.specs.Content.{Content, IsFence, BeginsAt, OfSome, keys}
 use Rattle.hc_base.specs.Words.{IsNumber}
@@ -39,6 +39,16 @@ drop_to_fences c =
     ap (λ n. drop n (layout c)) (let e : fences_at c ≡ 4 + (length (directory c) + 0) = omega (arith, directory-length c) in e)
     ∙ (drop-append-add (head_words c) (directory c ++ rest) (length (directory c) + 0)
     ∙ drop-append-add (directory c) rest 0)
+
+-- a page has 256 words
+pub page_long : (words : List ℕ) (c : Content) → IsPage words c → length words ≡ 256
+page_long words c page =
+    let zeros = replicate (256 - used_words c) 0 in
+    let entries = all_words c.entries ++ zeros in
+    let high = fence_words c.high ++ entries in
+    let low = low_words c.level c.low ++ high in
+    ap (λ ws. length ws) page.is
+    ∙ (let e : length (layout c) ≡ 256 = omega (arith, page.fits, directory-length c, length-append (head_words c) (directory c ++ low), length-append (directory c) low, length-append (low_words c.level c.low) high, length-append (fence_words c.high) entries, length-append (all_words c.entries) zeros, length-replicate {A = ℕ} (256 - used_words c) 0) in e)
 
 drop_to_high : (c : Content) → drop (high_at c) (layout c) ≡ fence_words c.high ++ (all_words c.entries ++ replicate (256 - used_words c) 0)
 drop_to_high c =

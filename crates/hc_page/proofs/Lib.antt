@@ -1,5 +1,6 @@
 pub mod Beginning
 pub mod Changed
+pub mod CopyingOn
 pub mod Directory
 pub mod Drafting
 pub mod Entries
@@ -9,9 +10,13 @@ pub mod Halving
 pub mod HeadWords
 pub mod Keys
 pub mod OneContent
+pub mod Open
 pub mod Ordered
+mod Packing
 pub mod Putting
 pub mod Ranges
 pub mod Sizes
+pub mod TellingEntries
+pub mod TellingHead
 pub mod Versions
 pub mod Written

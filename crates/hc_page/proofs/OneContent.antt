@@ -33,7 +33,8 @@ record_same None (Some s) flags bytes = cc
 record_same (Some r) None flags bytes = cc
 record_same (Some r) (Some s) flags bytes = ap Some bytes
 
-right_same : (a b : Option Logical) → OfSome (λ number. IsNumber number.0) a → OfSome (λ number. IsNumber number.0) b → right_number a ≡ right_number b → a ≡ b
+-- what has the same number is the same
+pub right_same : (a b : Option Logical) → OfSome (λ number. IsNumber number.0) a → OfSome (λ number. IsNumber number.0) b → right_number a ≡ right_number b → a ≡ b
 right_same None None of_a of_b same = refl
 right_same None (Some b) of_a of_b same = absurd (omega (arith, of_b, same))
 right_same (Some a) None of_a of_b same = absurd (omega (arith, of_a, same))

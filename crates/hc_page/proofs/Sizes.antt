@@ -1,10 +1,13 @@
 -- How many words an entry of a page has.
 use Rattle.std.proofs.Common.{◌≡◌, ℕ, zero, suc, ◌+◌, ◌/◌, ◌%◌, ◌^◌, ◌<◌, ◌≤◌, List, [], ◌++◌, length, take, drop, get_or, ap, ◌∙◌, arith, Some, None, length-append, length-drop, length-take-le}
 use Rattle.std.specs.List.{slice_get}
+use Rattle.std.specs.Option.{option_copied}
 use Rattle.std.proofs.lemmas.List.{get_or-take, get_or-drop}
 use Rattle.hc_base.specs.Content.{Content, Entry, Held, Version, Child, IsEntryOf}
-use Rattle.hc_base.specs.Layout.{IsPage, entry_words, held_words}
+use Rattle.hc_base.specs.Layout.{IsPage, entry_words, held_words, record_bytes}
 use Rattle.hc_base.proofs.Places.{place_of, words_of-length}
+use Rattle.hc_page.specs.declared.writer.NewEntry.{NewEntry}
+use Rattle.hc_page.specs.Drafts.{entry_of}
 use Rattle.hc_page.specs.Reading.{place_in, level_in, entry_head, entry_size}
 use Rattle.hc_page.proofs.Entries.{entry_read, level_is}
 use Rattle.hc_page.proofs.Keys.{same_bytes}
@@ -28,6 +31,12 @@ size_said (suc level) key (Child number) of =
     let w = get_or (held_words key (Child number)) 0 0 in
     let k : w / 2 ^ 16 % 2 ^ 16 ≡ length key = omega (arith, of.0.0, of.1.0) in
     omega (arith, k, words_of-length key)
+
+-- the words of a new entry of a leaf
+pub new_size : (new : NewEntry) (record_now : List ℕ) → record_now ≡ record_bytes (option_copied new.rec) → length (entry_words (entry_of new)) ≡ 2 + (length new.key.now + length record_now + 7) / 8
+new_size new record_now is =
+    let rb = record_bytes (option_copied new.rec) in
+    omega (arith, words_of-length (new.key.now ++ rb), length-append new.key.now rb, ap (λ bs. length bs) is)
 
 -- the words of an entry, read where the page has it
 pub record IsWordsRead (words : List ℕ) (slot : ℕ) (e : Entry) : Type 0 where

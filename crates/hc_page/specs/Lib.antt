@@ -2,5 +2,8 @@ pub mod Drafts
 pub mod Entries
 pub mod Finding
 pub mod Laws
+pub mod Open
 pub mod Puts
 pub mod Reading
+pub mod Told
+pub mod Packed

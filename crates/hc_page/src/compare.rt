@@ -4,7 +4,7 @@ ghost use Rattle.std.specs.Ordering.{nat_cmp};
 ghost use Rattle.std.specs.Cmp.Lexicographic.{slice_cmp};
 ghost use Rattle.hc_page.specs.Reading.{top_bytes, key_word, IsKeyAt};
 
-use crate::sought::word_from;
+use crate::Sought;
 use hc_base::Page;
 use std::cmp::Ordering;
 
@@ -16,14 +16,14 @@ pub struct KeyAt {
 }
 
 /// The order of a key of the page and another one.
-pub fn compare(page: &Page, key: KeyAt, sought: &[u8]) -> Ordering
+pub fn compare(page: &Page, key: KeyAt, sought: &Sought<'_>) -> Ordering
     requires { key.at * 8 + key.len ≤ 2048 }
-    ensures { (bytes : List ℕ) → IsKeyAt page.now.words key.at key.len bytes → result ≡ slice_cmp nat_cmp bytes sought.now }
+    ensures { (bytes : List ℕ) → IsKeyAt page.now.words key.at key.len bytes → result ≡ slice_cmp nat_cmp bytes sought.now.bytes.now }
 {
     let longest = key.len.max(sought.len());
     'words: for j in 0..longest / 8 + 1 {
         let one = word_of_key(page, key, j);
-        let other = word_from(sought, 8 * j);
+        let other = sought.word(j);
         if one != other {
             return one.cmp(&other);
         }

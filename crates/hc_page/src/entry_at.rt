@@ -1,7 +1,7 @@
 //! An entry of a page.
-ghost use Rattle.std.specs.Prelude.{◌≡◌, ℕ, Some};
+ghost use Rattle.std.specs.Prelude.{◌≡◌, ◌+◌, ◌≤◌, ℕ, Some};
 ghost use Rattle.std.specs.List.{slice_get};
-ghost use Rattle.hc_base.specs.Content.{Content, Entry, Child};
+ghost use Rattle.hc_base.specs.Content.{Content, Entry, Child, IsOlder, OfSome};
 ghost use Rattle.hc_base.specs.Layout.{IsPage};
 ghost use Rattle.hc_page.specs.Entries.{Tells, HasVersion, HasChild};
 ghost use Rattle.hc_page.specs.Reading.{older_in};
@@ -29,6 +29,9 @@ pub struct EntryAt {
 pub fn entry(page: &Page, slot: u16) -> EntryAt
     requires leaf { HasVersion page.now.words slot }
     ensures entry { (c : Content) (entry : Entry) → IsPage page.now.words c → slice_get c.entries slot ≡ Some entry → Tells page.now.words result entry }
+    // So each byte of its key and of its record can be asked for.
+    ensures key_within { result.key_at + result.key_len ≤ 2048 }
+    ensures rec_within { result.rec_at + result.rec_len ≤ 2048 }
 {
     let first = place(page, slot as usize);
     let head = page.words[first];
@@ -45,9 +48,10 @@ pub fn entry(page: &Page, slot: u16) -> EntryAt
     }
 }
 
-// The older version that a word names; page 0 is none.
-fn older(word: u64) -> Option<Older>
-    ensures { result ≡ older_in word }
+/// The older version that a word names; page 0 is none.
+pub fn older(word: u64) -> Option<Older>
+    ensures older { result ≡ older_in word }
+    ensures within { OfSome IsOlder result }
 {
     match (word / (1 << 32)) as u32 {
         0 => None,

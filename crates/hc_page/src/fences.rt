@@ -1,7 +1,8 @@
 //! The fences of a page, and the page at its right.
 ghost use Rattle.std.specs.Prelude.{◌≡◌, Some, None};
-ghost use Rattle.hc_base.specs.Content.{Content};
-ghost use Rattle.hc_base.specs.Layout.{IsPage, HasContent};
+ghost use Rattle.hc_base.specs.Words.{IsNumber};
+ghost use Rattle.hc_base.specs.Content.{Content, OfSome};
+ghost use Rattle.hc_base.specs.Layout.{IsPage, HasContent, right_number};
 
 use crate::bytes::copy_key;
 use crate::compare::KeyAt;
@@ -38,7 +39,15 @@ pub fn right(page: &Page) -> Option<Logical>
     requires valid { HasContent page.now.words }
     ensures right { (c : Content) → IsPage page.now.words c → result ≡ c.right }
 {
-    match (page.words[1] % (1 << 32)) as u32 {
+    number((page.words[1] % (1 << 32)) as u32)
+}
+
+/// A number of a page; 0 is none.
+pub fn number(word: u32) -> Option<Logical>
+    ensures number { right_number result ≡ word }
+    ensures from_1 { OfSome (λ number. IsNumber number.0) result }
+{
+    match word {
         0 => None,
         number => Some(Logical(number)),
     }

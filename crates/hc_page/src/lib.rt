@@ -1,7 +1,7 @@
 //! Pages: 256 words that stand for one content.
 //!
-//! Every call speaks of contents alone (`hc_base`, `specs/Content.antt`); where the words of a content are is the
-//! matter of its layout.
+//! Every call but `byte` and the writer's speaks of contents alone (`hc_base`, `specs/Content.antt`); where the words of a
+//! content are is the matter of its layout.
 #![tactic(auto)]
 
 mod bytes;
@@ -14,6 +14,9 @@ mod rewrite;
 mod room;
 mod search;
 mod sought;
+mod told;
+mod told_of_page;
+mod validity;
 mod writer;
 
 pub use bytes::byte;
@@ -21,5 +24,8 @@ pub use entry_at::{EntryAt, child, entry};
 pub use fences::{high, low, right};
 pub use rewrite::{with_copied, with_put, without};
 pub use room::{fits, fits_copied};
-pub use search::{Found, find};
+pub use search::{Found, find, find_sought};
+pub use sought::Sought;
+pub use told_of_page::{count, level};
+pub use validity::valid;
 pub use writer::{Draft, Head, NewEntry, begin, finish, push_child, push_copied, push_version};

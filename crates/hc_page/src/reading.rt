@@ -65,8 +65,8 @@ pub fn entry_len(level: u8, word: u64) -> usize
     head(level) + (key_len(level, word) + rec_len(level, word) + 7) / 8
 }
 
-// The length of an entry's record, from its first word.
-fn rec_len(level: u8, word: u64) -> usize
+/// The length of an entry's record, from its first word.
+pub fn rec_len(level: u8, word: u64) -> usize
     ensures { result ≡ record_length level word }
 {
     if level == 0 {

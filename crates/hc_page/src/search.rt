@@ -6,6 +6,7 @@ ghost use Rattle.hc_base.specs.Layout.{IsPage, HasContent};
 ghost use Rattle.hc_page.specs.Finding.{IsFound};
 ghost use Rattle.hc_page.specs.Reading.{HasEntry, IsKeyAt};
 
+use crate::Sought;
 use crate::compare::{KeyAt, compare};
 use crate::reading::{count, head, key_len, level, place};
 use hc_base::Page;
@@ -21,10 +22,19 @@ pub enum Found {
 }
 
 /// Looks a key up among the entries of a page, of a leaf or of an inner one, by halving the directory. On an inner page
-/// the child for the key is the entry at the place, or the one before it.
+/// the child for the key is the entry at the place, or the one before it. For look-ups in several pages put the key
+/// into words once, and use `find_sought`.
 pub fn find(page: &Page, key: &[u8]) -> Found
     requires valid { HasContent page.now.words }
     ensures found { (c : Content) → IsPage page.now.words c → IsFound (keys c.entries) key.now result }
+{
+    find_sought(page, &Sought::of(key))
+}
+
+/// Looks up a key that is in words already.
+pub fn find_sought(page: &Page, key: &Sought<'_>) -> Found
+    requires valid { HasContent page.now.words }
+    ensures found { (c : Content) → IsPage page.now.words c → IsFound (keys c.entries) key.now.bytes.now result }
 {
     let level = level(page);
     let mut low = 0;

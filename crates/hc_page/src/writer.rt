@@ -2,8 +2,9 @@
 //!
 //! `begin` writes head and fences, `push_version` and `push_copied` an entry each, and `finish` the number of used
 //! words. In between the page is a draft: what is to come is 0.
-ghost use Rattle.std.specs.Prelude.{◌≡◌, ◌≤◌, ◌<◌, ◌+◌, ◌-◌, ◌*◌, ◌/◌, ◌%◌, ◌^◌, ◌++◌, [], ◌∷◌, ℕ, length, take, drop, slice_index, slice_set, Some};
+ghost use Rattle.std.specs.Prelude.{◌≡◌, ◌≤◌, ◌<◌, ◌+◌, ◌-◌, ◌*◌, ◌/◌, ◌%◌, ◌^◌, ◌++◌, [], ◌∷◌, ℕ, length, take, drop, slice_index, slice_set, Some, IsTrue, ◌↔◌};
 ghost use Rattle.std.specs.List.{slice_get};
+ghost use Rattle.hc_base.specs.declared.numbers.Logical.{Logical as Number};
 ghost use Rattle.hc_base.specs.Content.{Content, Entry, IsEntryOf};
 ghost use Rattle.std.specs.Option.{option_copied};
 ghost use Rattle.hc_base.specs.Layout.{word, words_of, low_words, fence_words, record_bytes, right_number, record_flags, older_word, entry_words, IsPage};
@@ -151,6 +152,18 @@ fn third_word_of(head: &Head<'_>, low_at: u64, high_at: u64, first: u64) -> u64
     low_place * (1 << 48) + head.low.len() as u64 * (1 << 32) + high
 }
 
+/// Whether head, fences and directory of a page with so many entries fit.
+pub fn can_begin(head: &Head<'_>, total: usize) -> bool
+    requires total { total < 2 ^ 16 }
+    requires low { length head.now.low.now ≤ 463 }
+    requires high { length (record_bytes (option_copied head.now.high)) ≤ 463 }
+    ensures { IsTrue result ↔ (entries_from total (started head.now) ≤ 256) }
+{
+    let low = written_low(head).len();
+    let high = bytes_of(head.high).len();
+    4 + (total + 3) / 4 + (low + 7) / 8 + (high + 7) / 8 <= 256
+}
+
 /// Adds an entry of another page, as whole words.
 pub fn push_copied(draft: Draft, page: &Page, slot: usize, out: &mut Page) -> Draft
     requires room { CanCopy page.now.words slot draft out.old.words }
@@ -197,6 +210,13 @@ fn write_child(key: &[u8], child: Logical, at: usize, out: &mut Page) -> usize
 {
     out.words[at] = u64::from(child.0) * (1 << 32) + key.len() as u64 * (1 << 16);
     write_bytes(key, &[], at + 1, out);
+    child_size(key)
+}
+
+/// How many words an entry of an inner page with this key has.
+pub fn child_size(key: &[u8]) -> usize
+    ensures { (child : Number) → result ≡ length (entry_words (child_of key.now child)) }
+{
     1 + (key.len() + 7) / 8
 }
 
@@ -211,7 +231,15 @@ fn write_version(new: &NewEntry<'_>, at: usize, out: &mut Page) -> usize
     out.words[at] = version_head(new, record.len() as u64);
     out.words[at + 1] = older_number(new.older);
     write_bytes(new.key, record, at + 2, out);
-    2 + (new.key.len() + record.len() + 7) / 8
+    version_size(new)
+}
+
+/// How many words a new entry of a leaf has.
+pub fn version_size(new: &NewEntry<'_>) -> usize
+    requires entry { IsEntryOf 0 (entry_of new.now) }
+    ensures { result ≡ length (entry_words (entry_of new.now)) }
+{
+    2 + (new.key.len() + bytes_of(new.rec).len() + 7) / 8
 }
 
 fn version_head(new: &NewEntry<'_>, rec_len: u64) -> u64

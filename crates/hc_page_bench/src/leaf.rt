@@ -1,6 +1,6 @@
 //! A leaf without fences, and puts into it.
 ghost use Rattle.std.specs.Prelude.{◌≡◌, ◌≤◌, length};
-ghost use Rattle.hc_page_bench.specs.Leaf.{IsOpenLeaf};
+ghost use Rattle.hc_page.specs.Open.{IsOpenLeaf};
 
 use hc_base::{Logical, Page, Tid};
 use hc_page::{Head, NewEntry, begin, finish, fits, with_put};

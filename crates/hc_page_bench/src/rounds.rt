@@ -1,6 +1,6 @@
 //! Rounds of one kind of work, with a checksum.
 ghost use Rattle.std.specs.Prelude.{◌≤◌, length};
-ghost use Rattle.hc_page_bench.specs.Leaf.{IsOpenLeaf};
+ghost use Rattle.hc_page.specs.Open.{IsOpenLeaf};
 
 use crate::leaf::{key, put};
 use hc_base::Page;

@@ -8,6 +8,7 @@ use Rattle.hc_grammar.specs.Expressions.{Tail, applied}
 use Rattle.hc_grammar.specs.Lexemes.{Lexeme}
 use Rattle.hc_grammar.specs.Places.{run_of}
 use Rattle.hc_grammar.specs.Runs.{Budget, Run, Stop, Unexpected, TooDeep, and_then}
+use Rattle.hc_grammar.proofs.Expressions.Climbing.{climb_on, climb_stops}
 use Rattle.hc_parse.specs.declared.cursor.Cursor.{Cursor}
 use Rattle.hc_parse.specs.declared.source.Source.{Source}
 use Rattle.hc_parse.specs.declared.stop.Stop.{Stop as Halt}
@@ -99,3 +100,21 @@ climbs_all levels least {whole} {counter} {end} {most} {value} {budget} {tokens}
 -- a precedence in between is neither looser nor tighter
 pub between : (least p most : ℕ) → is_between least p most ≡ true → (least ≤ p) × (p ≤ most)
 between least p most e = (grind (arith, nat_tests), grind (arith, nat_tests))
+
+-- the first operator is at fault
+pub first_halts : (levels least : ℕ) → 1 ≤ least → (p : ℕ) (value : Expr) (source : Source) (before last : Cursor) (stop : Halt) → p ≡ next_precedence (left source before) → is_between least p 8 ≡ true
+    → Gives {A = Tail} source (Err stop) last (run_of levels (tail_at p) (budget_of before) (left source before))
+    → Gives {A = Expr} source (Err stop) last (climb levels least (length (left source before)) 8 value (budget_of before) (left source before))
+first_halts levels least low p value source before last halt.Unexpected next is e =
+    climb_stops levels least low p 8 value (budget_of before) (left source before) (Unexpected, left source last) (sym next) is e
+first_halts levels least low p value source before last halt.TooDeep next is e =
+    climb_stops levels least low p 8 value (budget_of before) (left source before) (TooDeep, left source last) (sym next) is e
+first_halts levels least low p value source before last halt.NoMemory next is e = tt
+
+-- the first operator makes a value, and those that follow are no tighter
+pub first_on : (levels least : ℕ) → 1 ≤ least → (p : ℕ) (value made : Expr) (tail : Tail) (source : Source) (before last : Cursor) → p ≡ next_precedence (left source before) → is_between least p 8 ≡ true
+    → run_of levels (tail_at p) (budget_of before) (left source before) ≡ Ok (tail, budget_of last, left source last) → made ≡ applied value tail
+    → climb levels least (length (left source before)) 8 value (budget_of before) (left source before) ≡ climb levels least (length (left source last)) p made (budget_of last) (left source last)
+first_on levels least low p value made tail source before last next is e same =
+    climb_on levels least low p 8 value tail (budget_of before) (budget_of last) (left source before) (left source last) (sym next) is e
+    ∙ ap (λ x. climb levels least (length (left source last)) p x (budget_of last) (left source last)) (sym same)

@@ -1,5 +1,3 @@
 pub mod Digits
-pub mod Given
 pub mod Quotes
-pub mod Slices
 pub mod SoundTokens

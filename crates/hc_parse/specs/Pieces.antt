@@ -19,7 +19,7 @@ are_hex_pairs [] = true
 are_hex_pairs (b ∷ []) = true
 are_hex_pairs (high ∷ low ∷ rest) = is_ascii_hexdigit high && (is_ascii_hexdigit low && are_hex_pairs rest)
 
--- the same behind the mark of a blob and its quote
+-- the same after the mark of a blob and its quote
 abbrev pub are_blob_digits : List ℕ → Bool
 are_blob_digits [] = true
 are_blob_digits (mark ∷ []) = true
@@ -29,7 +29,7 @@ are_blob_digits (mark ∷ quote ∷ digits) = are_hex_pairs digits
 abbrev pub is_sound : TokenKind → List ℕ → Bool
 is_sound of text = if kind_number of == kind_number kind.Blob then are_blob_digits text else true
 
--- a token stands on a stretch of the text between characters, and its literal can be read
+-- a token is a stretch of the text between characters, and its literal can be read
 abbrev pub IsSound : List ℕ → Token → Type 0
 IsSound text token =
     (token.from ≤ token.to) × (token.to ≤ length text) × IsCharBoundary text token.from × IsCharBoundary text token.to

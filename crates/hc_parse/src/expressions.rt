@@ -1,7 +1,7 @@
 // Expressions, by precedence climbing: an operand costs one call, however many precedences there are.
 ghost use Rattle.std.specs.Prelude.{◌≡◌, ◌<◌, ◌≤◌, ◌∷◌, [], ◌^◌, ◌-◌, length, negsuc, true};
 ghost use Rattle.hc_ast.specs.declared.expression.Expr.TheVariants as expr;
-ghost use Rattle.hc_grammar.specs.Climbing.{begins_negation, climb, negation, next_precedence, operators_from, tail_at};
+ghost use Rattle.hc_grammar.specs.Climbing.{begins_negation, climb, is_between, negation, next_precedence, operators_from, tail_at};
 ghost use Rattle.hc_grammar.specs.Expressions.{after_name, arguments, expression, primary, test_tail, unary};
 ghost use Rattle.hc_grammar.specs.Grammar.{Both, Choice, Level, Made, Negation, Nothing, Signed, Whole, Within, Word};
 ghost use Rattle.hc_grammar.specs.Kinds.{among, head_is};
@@ -24,7 +24,7 @@ use crate::precedence::{
 };
 use crate::source::Source;
 use crate::stop::Stop;
-use crate::tails::{Tail, applied, is_or_is_not};
+use crate::tails::{Tail, applied, is_or_is_not, joined};
 use hc_ast::Expr;
 use hc_lex::{Keyword, TokenKind};
 use hc_value::{Str, Value};
@@ -83,11 +83,39 @@ fn read_operators(
     }
     let first = read_signed(alloc, source, cursor, levels)?;
     // An operand alone needs no box.
-    if !is_between(least, next_precedence(source, cursor), CONCATENATION) {
+    let precedence = next_precedence(source, cursor);
+    if !is_between(least, precedence, CONCATENATION) {
         return Ok(first);
     }
     let first = Boxed::new(alloc, first)?;
-    let value = read_tails(alloc, source, cursor, first, least, CONCATENATION, levels)?;
+    read_sequence(alloc, source, cursor, first, least, precedence, levels)
+}
+
+// The operators that follow an operand, of which the first is next. What one operator makes needs no box.
+#[cycle(expression)]
+#[inline(always)]
+fn read_sequence(
+    alloc: Global,
+    source: &Source<'_>,
+    cursor: &mut Cursor,
+    first: Boxed<Expr>,
+    least: u8,
+    precedence: u8,
+    levels: u32,
+) -> Result<Expr, Stop>
+    requires least { 0 < least }
+    requires small { precedence < 9 }
+    requires next { precedence ≡ next_precedence (left source.now cursor.old) }
+    requires between { is_between least precedence 8 ≡ true }
+    ensures { Gives source.now result cursor.new (climb levels least (length (left source.now cursor.old)) 8 first (budget_of cursor.old) (left source.now cursor.old)) }
+{
+    let tail = read_tail(alloc, source, cursor, precedence, levels)?;
+    let value = joined(first, tail);
+    if !is_between(least, next_precedence(source, cursor), precedence) {
+        return Ok(value);
+    }
+    let value = Boxed::new(alloc, value)?;
+    let value = read_tails(alloc, source, cursor, value, least, precedence, levels)?;
     Ok(value.into_inner())
 }
 
@@ -169,7 +197,7 @@ fn read_negated(
     Ok(Boxed::new(alloc, Expr::Not(operand))?)
 }
 
-// What NOT stands before.
+// The operand of NOT.
 #[cycle(expression)]
 #[inline(always)]
 fn read_negation(
@@ -274,7 +302,7 @@ fn read_signed(
     read_primary(alloc, source, cursor, levels)
 }
 
-// What a sign stands before.
+// The operand of a sign.
 #[cycle(expression)]
 #[inline(always)]
 fn read_operand(

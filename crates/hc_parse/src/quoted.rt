@@ -29,7 +29,7 @@ fn unquoted_bytes(alloc: Global, quote: u8, bytes: &[u8]) -> Result<Option<Vec<u
     }
 }
 
-// What stands before a closing quote, each quote within once.
+// What is before a closing quote, each quote within once.
 fn undoubled(alloc: Global, quote: u8, bytes: &[u8]) -> Result<Option<Vec<u8>>, NoMemory>
     ensures { IfOk result (λ inner. also (λ v. v.items) inner ≡ undoubled quote bytes.now) }
 {
@@ -45,7 +45,7 @@ fn undoubled(alloc: Global, quote: u8, bytes: &[u8]) -> Result<Option<Vec<u8>>, 
     Ok(None)
 }
 
-// What stands after a byte within quotes, and after its double where it is a quote; nothing after a closing one.
+// What follows a byte within quotes, and after its double where it is a quote; nothing after a closing one.
 fn after_inner(quote: u8, first: u8, after: &[u8]) -> Option<&[u8]>
     ensures some { IfSome result (λ left. undoubled quote (first ∷ after.now) ≡ also (λ inner. first ∷ inner) (undoubled quote left.now)) }
     ensures shorter { IfSome result (λ left. length left.now ≤ length after.now) }
@@ -60,7 +60,7 @@ fn after_inner(quote: u8, first: u8, after: &[u8]) -> Option<&[u8]>
     }
 }
 
-/// The bytes that the digits of a blob stand for.
+/// The bytes that the digits of a blob spell.
 pub fn blob_of(alloc: Global, text: &[u8]) -> Result<Option<Blob>, NoMemory>
     requires { are_blob_digits text.now ≡ true }
     ensures { IfOk result (λ inner. inner ≡ blob_of text.now) }

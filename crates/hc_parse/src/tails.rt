@@ -24,8 +24,9 @@ pub fn applied(alloc: Global, left: Boxed<Expr>, tail: Tail) -> Result<Boxed<Exp
     Boxed::new(alloc, joined(left, tail))
 }
 
+/// The same without a box.
 #[inline(always)]
-fn joined(left: Boxed<Expr>, tail: Tail) -> Expr
+pub fn joined(left: Boxed<Expr>, tail: Tail) -> Expr
     ensures { result ≡ applied left (tail_seen tail) }
 {
     match tail {

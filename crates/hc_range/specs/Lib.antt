@@ -2,4 +2,5 @@ pub mod Examples
 pub mod Keys
 pub mod Laws
 pub mod Order
+pub mod Prepared
 pub mod Ranges

@@ -1,4 +1,4 @@
-ghost use Rattle.std.specs.Prelude.{◌≡◌, ℕ, List, [], ◌⊎◌, ◌↔◌, IsTrue, OnOk, OnErr};
+ghost use Rattle.std.specs.Prelude.{◌≡◌, ℕ, List, [], ◌⊎◌, ◌↔◌, IsTrue, OnOk, OnErr, vec_len};
 ghost use Rattle.hc_range.specs.Ranges.{Includes, InAny, InRange, IsNormal};
 
 use crate::range::{copy_range, is_end_at_most, is_non_empty};
@@ -18,10 +18,12 @@ use std::marker::Model;
 #[derive(Debug, Drop)]
 pub struct ReadLog {
     ranges: Vec<Range>,
+    // Empty, with room for a key once a range was prepared.
+    spare: Vec<u8>,
 }
 
 impl Model for ReadLog {
-    ghost use Rattle.std.specs.Prelude.{List};
+    ghost use Rattle.std.specs.Prelude.{◌≡◌, List, [], vec_len};
     ghost use Rattle.hc_range.specs.declared.range.Range.{Range};
     ghost use Rattle.hc_range.specs.Ranges.{IsNormal};
 
@@ -29,7 +31,7 @@ impl Model for ReadLog {
 
     ghost view = { λ log. log.ranges.items };
 
-    ghost invariant = { λ log. IsNormal log.ranges.items };
+    ghost invariant = { λ log. IsNormal log.ranges.items × (log.spare.items ≡ []) × (vec_len log.spare ≡ 0) };
 }
 
 impl ReadLog {
@@ -39,7 +41,26 @@ impl ReadLog {
     {
         ReadLog {
             ranges: Vec::new(alloc),
+            spare: Vec::new(alloc),
         }
+    }
+
+    // The list of ranges, and the room for a key.
+    pub(crate) fn into_parts(self) -> (Vec<Range>, Vec<u8>)
+        ensures list { result.0.items ≡ self }
+        ensures normal { IsNormal self }
+        ensures spare { (result.1.items ≡ []) × (vec_len result.1 ≡ 0) }
+    {
+        let ReadLog { ranges, spare } = self;
+        (ranges, spare)
+    }
+
+    pub(crate) fn from_parts(ranges: Vec<Range>, spare: Vec<u8>) -> ReadLog
+        requires normal { IsNormal ranges.items }
+        requires spare { (spare.items ≡ []) × (vec_len spare ≡ 0) }
+        ensures { result ≡ ranges.items }
+    {
+        ReadLog { ranges, spare }
     }
 
     /// The ranges, ascending. None is empty, and no two overlap or touch.
@@ -90,7 +111,7 @@ impl ReadLog {
             InAny self.new key ↔ (InAny self.old key ⊎ InAny other key)) }
         ensures no_memory { OnErr result (self.new ≡ self.old) }
     {
-        let ReadLog { ranges } = other;
+        let (ranges, _spare) = other.into_parts();
         unite_all(&mut self.ranges, ranges)
     }
 

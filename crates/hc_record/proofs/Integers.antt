@@ -101,7 +101,7 @@ at_most_8 true x y p q = p
 at_most_8 false x y p q = q
 
 -- a type up to 9 has a body of at most eight bytes
-small_body : (t : ℕ) → t ≤ 9 → body_len t ≤ 8
+pub small_body : (t : ℕ) → t ≤ 9 → body_len t ≤ 8
 unfolding body_len
 small_body t small =
     either_way (λ (n : ℕ). n ≤ 8) t 5 t _ (λ lt. omega (arith, lt)) (λ _.

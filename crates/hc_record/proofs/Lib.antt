@@ -1,9 +1,11 @@
 mod Bounds
+mod Clamped
 mod Cuts
 mod Encodings
 mod Headers
 mod Integers
 mod Numbers
+mod Placed
 mod Records
 mod Steps
 mod Tails

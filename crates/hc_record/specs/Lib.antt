@@ -2,3 +2,4 @@ pub mod Varint
 pub mod Record
 pub mod Reading
 pub mod Laws
+pub mod Places

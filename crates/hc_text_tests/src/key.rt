@@ -1,17 +1,10 @@
 // Expected bytes were written out by hand from the format that `specs/Keys.antt` of `hc_key` states.
-use hc_key::{KeyFault, key_of, prefix_range, values_of};
+use crate::made::{blob, ladder, text};
+use hc_key::{KeyFault, key_len, key_of, prefix_range, values_of};
 use hc_range::{Bytes, contains, is_below};
-use hc_value::{Blob, NoMemory, Str, Value, cmp};
+use hc_value::{Value, cmp};
 use std::alloc::Global;
 use std::test::Fail;
-
-fn text(alloc: Global, text: &str) -> Result<Value, NoMemory> {
-    Ok(Value::Text(Str::from_text(alloc, text)?))
-}
-
-fn blob(alloc: Global, bytes: &[u8]) -> Result<Value, NoMemory> {
-    Ok(Value::Blob(Blob::from_slice(alloc, bytes)?))
-}
 
 #[test]
 fn keys_have_these_bytes(rt: HostRuntime) -> Result<(), Fail> {
@@ -25,6 +18,15 @@ fn keys_have_these_bytes(rt: HostRuntime) -> Result<(), Fail> {
     assert_eq!(rt; key.as_slice(), b"\0\0\0\x02\x03a\0\0\x01".as_slice());
     let key = key_of(alloc, 3, &[blob(alloc, &[0])?])?;
     assert_eq!(rt; key.as_slice(), b"\0\0\0\x03\x04\0\xff\0\0".as_slice());
+    Ok(())
+}
+
+#[test]
+fn a_key_is_as_long_as_is_told(rt: HostRuntime) -> Result<(), Fail> {
+    let alloc = rt.alloc();
+    assert_eq!(rt; key_len(&[]), 4);
+    assert_eq!(rt; key_len(&[Value::Null, Value::Int(-1)]), 14);
+    assert_eq!(rt; key_len(&[text(alloc, "a\0b")?, blob(alloc, &[0, 0])?]), 18);
     Ok(())
 }
 
@@ -44,22 +46,6 @@ fn a_prefix_goes_up_to_ff(rt: HostRuntime) -> Result<(), Fail> {
     let other = key_of(alloc, 1, &[Value::Int(7)])?;
     assert_eq!(rt; contains(&range, other.as_slice()), false);
     Ok(())
-}
-
-// Neighbours in the order of values, ascending.
-fn ladder(alloc: Global) -> Result<Vec<Value>, NoMemory> {
-    let mut values = Vec::new(alloc);
-    values.push(Value::Null)?;
-    for n in [i64::MIN, -1, 0, 1, i64::MAX] {
-        values.push(Value::Int(n))?;
-    }
-    for s in ["", "a", "a\0", "a\0\0b", "aa"] {
-        values.push(text(alloc, s)?)?;
-    }
-    values.push(blob(alloc, b"")?)?;
-    values.push(blob(alloc, b"\x00")?)?;
-    values.push(blob(alloc, b"\xff")?)?;
-    Ok(values)
 }
 
 #[test]

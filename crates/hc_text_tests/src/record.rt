@@ -3,8 +3,9 @@
 // the lists of `ROWS`, and finds the same bytes.
 ghost use Rattle.std.specs.Prelude.{◌<◌, ◌^◌, length};
 
-use hc_record::{RecordFault, RecordKind, decode, encode, fits};
-use hc_value::{Blob, NoMemory, Str, Value};
+use crate::made::{blob, text};
+use hc_record::{RecordFault, RecordKind, decode, encode, encoding_len, fits, integer_at};
+use hc_value::{NoMemory, Value};
 use std::alloc::Global;
 use std::test::Fail;
 
@@ -57,19 +58,14 @@ const INTEGERS: [(i64, &[u8]); 30] = [
     ),
 ];
 
-fn text(alloc: Global, text: &str) -> Result<Value, NoMemory> {
-    Ok(Value::Text(Str::from_text(alloc, text)?))
-}
-
-fn blob(alloc: Global, bytes: &[u8]) -> Result<Value, NoMemory> {
-    Ok(Value::Blob(Blob::from_slice(alloc, bytes)?))
-}
-
 // Whether the values have this record, and it is read as them again.
 fn agree(alloc: Global, values: &[Value], bytes: &[u8]) -> Result<bool, NoMemory>
     requires { length bytes.now < 2 ^ 32 }
 {
     if !fits(values) || encode(alloc, values)?.as_slice() != bytes {
+        return Ok(false);
+    }
+    if encoding_len(values) != bytes.len() as u64 {
         return Ok(false);
     }
     match decode(alloc, bytes) {
@@ -221,4 +217,14 @@ fn each_fault_has_its_kind_and_place(rt: HostRuntime) {
         assert!(rt; bytes.len() < 100);
         assert_eq!(rt; fault(rt.alloc(), bytes), Some((at, kind)), "{bytes:?}");
     }
+}
+
+#[test]
+fn an_integer_is_read_where_it_is(rt: HostRuntime) -> Result<(), Fail> {
+    let bytes = b"\x06\x00\x11\x02\x09\x06ab\x01\x2c\x80\0\0\0\0\0\0\0";
+    let expected = [None, None, Some(300), Some(1), Some(i64::MIN), None];
+    for (place, n) in expected.iter().enumerate() {
+        assert_eq!(rt; integer_at(bytes, place), *n);
+    }
+    Ok(())
 }

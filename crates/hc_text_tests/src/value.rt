@@ -1,47 +1,8 @@
 // The places of the values are SQLite's: section 4.1 of https://www.sqlite.org/datatype3.html.
-use hc_value::{Blob, Class, NoMemory, Str, Value, class, cmp, copy};
+use crate::made::{blob, ladder, text};
+use hc_value::{Blob, Class, Str, Value, class, cmp, copy};
 use std::alloc::Global;
 use std::test::Fail;
-
-fn text(alloc: Global, text: &str) -> Result<Value, NoMemory> {
-    Ok(Value::Text(Str::from_text(alloc, text)?))
-}
-
-fn blob(alloc: Global, bytes: &[u8]) -> Result<Value, NoMemory> {
-    Ok(Value::Blob(Blob::from_slice(alloc, bytes)?))
-}
-
-// In ascending order.
-fn ladder(alloc: Global) -> Result<Vec<Value>, NoMemory> {
-    let mut values = Vec::new(alloc);
-    values.push(Value::Null)?;
-    for n in [i64::MIN, -256, -1, 0, 1, 255, i64::MAX] {
-        values.push(Value::Int(n))?;
-    }
-    for s in [
-        "",
-        "\0",
-        "10",
-        "9",
-        "A",
-        "a",
-        "ab",
-        "b",
-        "zz",
-        "ä",
-        "€",
-        "\u{1d11e}",
-    ] {
-        values.push(text(alloc, s)?)?;
-    }
-    values.push(blob(alloc, b"")?)?;
-    values.push(blob(alloc, b"\x00")?)?;
-    values.push(blob(alloc, b"\x00\x00")?)?;
-    values.push(blob(alloc, b"\x00\xff")?)?;
-    values.push(blob(alloc, b"\x7f")?)?;
-    values.push(blob(alloc, b"\x80")?)?;
-    Ok(values)
-}
 
 #[test]
 fn values_stand_in_one_order(rt: HostRuntime) -> Result<(), Fail> {

@@ -1,11 +1,11 @@
 -- A transaction begins where none is open: its snapshot is all that is committed.
 use Rattle.std.proofs.Common.{◌≡◌, ◌≢◌, ◌∙◌, ⊎_elim, refl, ap, ℕ, ◌+◌, ◌≤◌, true, List, [], ◌∷◌, Option, arith}
 use Rattle.std.proofs.lemmas.Bool.{cases_eq}
-use Rattle.hc_core.specs.Lookup.{Among, but}
+use Rattle.hc_base.specs.Lookup.{Among, but}
 use Rattle.hc_core.specs.Account.{Txn, HasWritten, HasWrittenAs, IsIdle, begun_at}
 use Rattle.hc_core.specs.Versions.{PutAt}
 use Rattle.hc_core.specs.Sound.{AreSound, TxnIsSound, AreInOrder, ComesAfterEach}
-use Rattle.hc_core.proofs.Lookups.{each_but, each_grown, grown_here}
+use Rattle.hc_base.proofs.Lookups.{each_but, each_grown, grown_here}
 use Rattle.hc_core.proofs.Agreeing.{AgreeUpto, sound-agree}
 use Rattle.hc_core.proofs.Ordered.{after_each, each_after}
 

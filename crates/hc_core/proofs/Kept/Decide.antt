@@ -3,11 +3,11 @@ use Rattle.std.proofs.Common.{◌≡◌, ◌≢◌, ◌∙◌, inl, inr, ⊎_eli
 use Rattle.std.proofs.lemmas.Bool.{cases_lt}
 use Rattle.hc_range.specs.declared.range.Range.{Range}
 use Rattle.hc_range.specs.Ranges.{InRange, InAny, Includes}
-use Rattle.hc_core.specs.Lookup.{Among, but}
+use Rattle.hc_base.specs.Lookup.{Among, but}
 use Rattle.hc_core.specs.Account.{IsAskedFor, IsPart, Txn, PartRead, Refusal, HoldsKey, HasWritten, HasWrittenAs, HasRead}
 use Rattle.hc_core.specs.Versions.{PutAt}
 use Rattle.hc_core.specs.Sound.{AreSound, TxnIsSound, AreInOrder, NamesWriter, NonePutBetween}
-use Rattle.hc_core.proofs.Lookups.{each_but, but-same, but-other, new_here, rest_here, others_here, each_new, each_old, old_there, rest_there}
+use Rattle.hc_base.proofs.Lookups.{each_but, but-same, but-other, new_here, rest_here, others_here, each_new, each_old, old_there, rest_there}
 use Rattle.hc_core.proofs.Agreeing.{AgreeUpto, checks-agree, none-agree, reads-agree, sound-agree}
 use Rattle.hc_core.proofs.Ordered.{after_each, newest_after, distinct_with}
 use Rattle.hc_core.proofs.WriteSets.{nothing_written}

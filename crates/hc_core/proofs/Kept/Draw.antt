@@ -1,9 +1,9 @@
 -- A transaction draws an id that no other has, with an ordinal above all of its connection.
 use Rattle.std.proofs.Common.{◌≡◌, ◌≢◌, refl, sym, ℕ, ◌<◌, List, ◌∷◌}
-use Rattle.hc_core.specs.Lookup.{Among, but}
+use Rattle.hc_base.specs.Lookup.{Among, but}
 use Rattle.hc_core.specs.Account.{Txn}
 use Rattle.hc_core.specs.Sound.{AreSound}
-use Rattle.hc_core.proofs.Lookups.{rest_there}
+use Rattle.hc_base.proofs.Lookups.{rest_there}
 use Rattle.hc_core.proofs.Changed.{kept_changed}
 use Rattle.hc_core.proofs.Ordered.{newest_sound, newest_after, after_each, each_after}
 use Rattle.hc_core.proofs.WriteSets.{nothing_put}

@@ -1,6 +1,6 @@
 -- A transaction ends: it is decided, or nothing of it is written.
 use Rattle.std.proofs.Common.{◌≡◌, ◌≢◌, ◌⊎◌, ⊎_elim, refl, ℕ, true, List, [], ◌∷◌}
-use Rattle.hc_core.specs.Lookup.{but}
+use Rattle.hc_base.specs.Lookup.{but}
 use Rattle.hc_core.specs.Account.{Txn}
 use Rattle.hc_core.specs.Sound.{AreSound}
 use Rattle.hc_core.proofs.Ordered.{newest_sound}

@@ -1,7 +1,7 @@
 -- A note is entered: nothing that soundness speaks of changes.
 use Rattle.std.proofs.Common.{◌≡◌, refl, ℕ, List, ◌∷◌, Option}
 use Rattle.hc_base.specs.declared.full.Full.{Full}
-use Rattle.hc_core.specs.Lookup.{but}
+use Rattle.hc_base.specs.Lookup.{but}
 use Rattle.hc_core.specs.Account.{Txn}
 use Rattle.hc_core.specs.Sound.{AreSound}
 use Rattle.hc_core.specs.declared.cells.Write.{Write}

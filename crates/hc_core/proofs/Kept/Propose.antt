@@ -1,6 +1,6 @@
 -- A number is proposed: no check is for it yet.
 use Rattle.std.proofs.Common.{◌≡◌, ◌≢◌, refl, ℕ, ◌+◌, ◌≤◌, List, [], ◌∷◌}
-use Rattle.hc_core.specs.Lookup.{but}
+use Rattle.hc_base.specs.Lookup.{but}
 use Rattle.hc_core.specs.Account.{Txn}
 use Rattle.hc_core.specs.Sound.{AreSound}
 use Rattle.hc_core.proofs.Ordered.{newest_sound}

@@ -1,6 +1,6 @@
 -- A key is put: no other undecided transaction has it, and no commit above the snapshot put it.
 use Rattle.std.proofs.Common.{◌≡◌, ◌≢◌, ◌∙◌, inl, inr, ⊎_elim, true≢false, refl, sym, subst, ℕ, false, List, ◌∷◌, Option}
-use Rattle.hc_core.specs.Lookup.{but}
+use Rattle.hc_base.specs.Lookup.{but}
 use Rattle.hc_core.specs.Account.{Txn, HasWritten}
 use Rattle.hc_core.specs.Machine.{IsFree}
 use Rattle.hc_core.specs.Sound.{AreSound}

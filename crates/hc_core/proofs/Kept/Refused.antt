@@ -1,6 +1,6 @@
 -- A put or a check is refused: the refusal names a transaction of another connection that put the key.
 use Rattle.std.proofs.Common.{◌≡◌, ⊎_elim, refl, sym, subst, ℕ, List, ◌∷◌}
-use Rattle.hc_core.specs.Lookup.{but}
+use Rattle.hc_base.specs.Lookup.{but}
 use Rattle.hc_core.specs.Account.{Txn, Refusal}
 use Rattle.hc_core.specs.Sound.{AreSound, NamesWriter}
 use Rattle.hc_core.proofs.Ordered.{newest_sound}

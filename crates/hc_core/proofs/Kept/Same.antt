@@ -1,6 +1,6 @@
 -- A change that leaves the id, the ordinal, the snapshot and the place.
 use Rattle.std.proofs.Common.{◌≡◌, ◌∙◌, subst, sym, ℕ, ◌<◌, ◌≤◌, List, [], ◌∷◌}
-use Rattle.hc_core.specs.Lookup.{but}
+use Rattle.hc_base.specs.Lookup.{but}
 use Rattle.hc_core.specs.Account.{HoldsKey, Txn}
 use Rattle.hc_core.specs.Sound.{AreSnapshotReads, AreSound, ChecksAreSound, ComesAfterEach, HoldsAlone, IsFirstCommitter, NumbersAreSound, RefusalsAreTrue, TxnIsSound, WritesAreSound}
 use Rattle.hc_core.specs.declared.cells.Write.{Write}

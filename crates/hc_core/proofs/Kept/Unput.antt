@@ -1,6 +1,6 @@
 -- A key is taken out: less is in the write set than before.
 use Rattle.std.proofs.Common.{◌≡◌, refl, ap, ℕ, List, ◌∷◌}
-use Rattle.hc_core.specs.Lookup.{but}
+use Rattle.hc_base.specs.Lookup.{but}
 use Rattle.hc_core.specs.Account.{Txn, without}
 use Rattle.hc_core.specs.Sound.{AreSound}
 use Rattle.hc_core.proofs.Ordered.{newest_sound}

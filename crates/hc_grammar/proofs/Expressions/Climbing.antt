@@ -1,7 +1,8 @@
 -- Precedence climbing reads the same trees as the grammar's precedences.
-use Rattle.std.proofs.Common.{Result, ◌≡◌, ◌≢◌, ◌⊎◌, inl, inr, ⊎_elim, ap, ◌∙◌, ℕ, zero, suc, ◌<◌, ◌≤◌, ◌&&◌, Bool, true, false, List, [], ◌∷◌, ◌++◌, length, Ok, Err, refl, sym, subst, arith, length-append}
+use Rattle.std.proofs.Common.{Result, ◌≡◌, ◌≢◌, ◌⊎◌, inl, inr, ⊎_elim, ap, ◌∙◌, ℕ, zero, suc, ◌-◌, ◌<◌, ◌≤◌, ◌&&◌, Bool, true, false, List, [], ◌∷◌, ◌++◌, length, Ok, Err, refl, sym, subst, arith, length-append}
 use Rattle.std.specs.Prelude.{if◌then◌else◌, nat_lt}
 use Rattle.std.proofs.lemmas.Bool.{and_parts, ltb-true}
+use Rattle.std.proofs.lemmas.Bool.Decides.{nat_tests}
 use Rattle.hc_lex.specs.declared.token.TokenKind.{TokenKind}
 use Rattle.hc_lex.specs.declared.token.TokenKind.TheVariants as kind
 use Rattle.hc_lex.specs.declared.keyword.Keyword.TheVariants as word
@@ -13,10 +14,10 @@ use Rattle.hc_grammar.specs.Grammar.{Grammar}
 use Rattle.hc_grammar.specs.First.{first, nullable, apart, is_clear_by_one}
 use Rattle.hc_grammar.specs.Reads.{Read, read}
 use Rattle.hc_grammar.specs.Has.{has}
-use Rattle.hc_grammar.specs.Runs.{Budget, Run, Runner, Unexpected, and_then, chain}
-use Rattle.hc_grammar.specs.Expressions.{Precedence, Conjunction, Order, Sum, Product, Concatenation, applied, tail_of, grouped, tight, loose, unary, negated}
+use Rattle.hc_grammar.specs.Runs.{Budget, Run, Runner, Stop, Unexpected, and_then, chain}
+use Rattle.hc_grammar.specs.Expressions.{Tail, Precedence, Conjunction, Order, Sum, Product, Concatenation, applied, tail_of, grouped, tight, loose, unary, negated}
 use Rattle.hc_grammar.specs.Places.{placed, Placed, run_of}
-use Rattle.hc_grammar.specs.Climbing.{operators_from, tail_at, precedences, precedence_among, next_precedence, climb, climbed, negation, begins_negation}
+use Rattle.hc_grammar.specs.Climbing.{operators_from, tail_at, precedences, precedence_among, next_precedence, is_between, climb, climbed, negation, begins_negation}
 use Rattle.hc_grammar.proofs.Terminals.Lists.{apart_to, among_one}
 use Rattle.hc_grammar.proofs.Meanings.Marks.{starts_lexeme}
 use Rattle.hc_grammar.proofs.Meanings.Begins.{begins, begun}
@@ -293,6 +294,40 @@ module _ (levels : ℕ) where
   followed_is (suc (suc (suc (suc (suc (suc (suc (suc zero)))))))) low high b t = grouped_is (Concatenation ∷ []) unary b t ∙ eight (run_of levels unary b t)
   followed_is (suc (suc (suc (suc (suc (suc (suc (suc (suc zero))))))))) low high b t = nine (run_of levels unary b t)
   followed_is (suc (suc (suc (suc (suc (suc (suc (suc (suc (suc n)))))))))) low high b t = absurd (omega (arith, high))
+
+  -- one operator is read, and then those that are no tighter
+  pub climb_on : (least : ℕ) → 1 ≤ least → (p most : ℕ) (v : Expr) (tail : Tail) (b c : Budget) (t u : List Lexeme) → next_precedence t ≡ p → is_between least p most ≡ true
+      → run_of levels (tail_at p) b t ≡ Ok (tail, c, u) → climb levels least (length t) most v b t ≡ climb levels least (length u) p (applied v tail) c u
+  climb_on least low p most v tail b c t u next is e =
+      let shorter : length u < length t = run_shorter (tail_at p) (tail_clear p) (tail_filled p) levels b c t u tail e in
+      let some : length t ≡ suc (length t - 1) = omega arith in
+      ap (λ n. climb levels least n most v b t) some
+      ∙ ap (λ q. step q) next
+      ∙ ap (λ test. if test then and_then (run_of levels (tail_at p) b t) (λ after. climb levels least (length t - 1) p (applied v after)) else Ok (v, b, t)) is
+      ∙ ap (λ r. and_then r (λ after. climb levels least (length t - 1) p (applied v after))) e
+      ∙ climb_is least low (length t - 1) p (applied v tail) c u (omega arith)
+      ∙ sym (climb_is least low (length u) p (applied v tail) c u (omega arith))
+    where
+      step : ℕ → Run Expr
+      step q =
+          if is_between least q most
+          then and_then (run_of levels (tail_at q) b t) (λ after. climb levels least (length t - 1) q (applied v after))
+          else Ok (v, b, t)
+
+  -- an operator that is at fault is so for the whole
+  pub climb_stops : (least : ℕ) → 1 ≤ least → (p most : ℕ) (v : Expr) (b : Budget) (t : List Lexeme) (stop : Stop × List Lexeme) → next_precedence t ≡ p → is_between least p most ≡ true
+      → run_of levels (tail_at p) b t ≡ Err stop → climb levels least (length t) most v b t ≡ Err stop
+  climb_stops least low p most v b [] stop next is e = let high : least ≤ p = grind (arith, nat_tests, is) in absurd (omega (arith, low, high, next))
+  climb_stops least low p most v b (first ∷ rest) stop next is e =
+      ap (λ q. step q) next
+      ∙ ap (λ test. if test then and_then (run_of levels (tail_at p) b (first ∷ rest)) (λ after. climb levels least (length rest) p (applied v after)) else Ok (v, b, first ∷ rest)) is
+      ∙ ap (λ r. and_then r (λ after. climb levels least (length rest) p (applied v after))) e
+    where
+      step : ℕ → Run Expr
+      step q =
+          if is_between least q most
+          then and_then (run_of levels (tail_at q) b (first ∷ rest)) (λ after. climb levels least (length rest) q (applied v after))
+          else Ok (v, b, first ∷ rest)
 
   -- precedence climbing reads what the grammar's precedences read
   pub climbed_is : (least : ℕ) → 1 ≤ least → least ≤ 9 → (b : Budget) (t : List Lexeme) → run_of levels (operators_from least) b t ≡ climbed levels least b t

@@ -1,10 +1,10 @@
--- Pairs of digits, one behind the other.
+-- Pairs of digits, one after the other.
 use Rattle.std.proofs.Common.{◌≡◌, ◌∙◌, ◌+◌, ◌*◌, ℕ, Bool, true, false, ◌&&◌, List, [], ◌∷◌, ◌++◌, Option, Some, None, refl, sym, ap, append_assoc}
 use Rattle.std.specs.Char.{digit_value, is_ascii_hexdigit}
 use Rattle.hc_grammar.specs.Terminals.{also, digit_bytes}
 use Rattle.hc_parse.specs.Pieces.{are_hex_pairs}
 
--- a last byte of the front is the first byte behind it
+-- a last byte of the front is the first byte after it
 with_front : (out : List ℕ) (b : ℕ) (o : Option (List ℕ)) → also (λ inner. (out ++ b ∷ []) ++ inner) o ≡ also (λ inner. out ++ inner) (also (λ inner. b ∷ inner) o)
 with_front out b None = refl
 with_front out b (Some inner) = ap Some (append_assoc out (b ∷ []) inner)
@@ -21,17 +21,17 @@ both_true true false c e = absurd (let bad = e in cc)
 both_true false b c e = absurd (let bad = e in cc)
 
 -- pairs of digits without the first pair are such pairs
-pub pairs_behind : (high low : ℕ) (rest : List ℕ) → are_hex_pairs (high ∷ low ∷ rest) ≡ true → are_hex_pairs rest ≡ true
-pairs_behind high low rest e = both_true (is_ascii_hexdigit high) (is_ascii_hexdigit low) (are_hex_pairs rest) e
+pub pairs_after : (high low : ℕ) (rest : List ℕ) → are_hex_pairs (high ∷ low ∷ rest) ≡ true → are_hex_pairs rest ≡ true
+pairs_after high low rest e = both_true (is_ascii_hexdigit high) (is_ascii_hexdigit low) (are_hex_pairs rest) e
 
 -- the same as a loop meets it
-pub pairs_on : (out longer rest tail behind : List ℕ) (high low one other : ℕ) (whole : Option (List ℕ))
-    → rest ≡ high ∷ tail → tail ≡ low ∷ behind → one ≡ digit_value high → other ≡ digit_value low → longer ≡ out ++ (16 * one + other) ∷ []
+pub pairs_on : (out longer rest tail following : List ℕ) (high low one other : ℕ) (whole : Option (List ℕ))
+    → rest ≡ high ∷ tail → tail ≡ low ∷ following → one ≡ digit_value high → other ≡ digit_value low → longer ≡ out ++ (16 * one + other) ∷ []
     → (are_hex_pairs rest ≡ true) × (also (λ inner. out ++ inner) (digit_bytes rest) ≡ whole)
-    → (are_hex_pairs behind ≡ true) × (also (λ inner. longer ++ inner) (digit_bytes behind) ≡ whole)
-pairs_on out longer rest tail behind high low one other whole a b d e f (are, same) =
-    let is : rest ≡ high ∷ low ∷ behind = a ∙ ap (λ t. high ∷ t) b in
+    → (are_hex_pairs following ≡ true) × (also (λ inner. longer ++ inner) (digit_bytes following) ≡ whole)
+pairs_on out longer rest tail following high low one other whole a b d e f (are, same) =
+    let is : rest ≡ high ∷ low ∷ following = a ∙ ap (λ t. high ∷ t) b in
     let byte : longer ≡ out ++ (16 * digit_value high + digit_value low) ∷ [] = f ∙ ap (λ x. out ++ (16 * x + other) ∷ []) d ∙ ap (λ x. out ++ (16 * digit_value high + x) ∷ []) e in (
-      pairs_behind high low behind (ap are_hex_pairs (sym is) ∙ are),
-      ap (λ xs. also (λ inner. xs ++ inner) (digit_bytes behind)) byte ∙ digits_on out high low behind ∙ ap (λ r. also (λ inner. out ++ inner) (digit_bytes r)) (sym is) ∙ same,
+      pairs_after high low following (ap are_hex_pairs (sym is) ∙ are),
+      ap (λ xs. also (λ inner. xs ++ inner) (digit_bytes following)) byte ∙ digits_on out high low following ∙ ap (λ r. also (λ inner. out ++ inner) (digit_bytes r)) (sym is) ∙ same,
     )

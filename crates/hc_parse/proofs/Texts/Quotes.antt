@@ -15,20 +15,20 @@ also_some f (Some x) y e = (x, refl, (let q = e in cc))
 at_seam : (xs rest : List ℕ) (q : ℕ) → (length xs < length (xs ++ q ∷ rest)) × (get_or (xs ++ q ∷ rest) (length xs) 0 ≡ q)
 at_seam xs rest q = (omega (arith, length-append xs (q ∷ rest)), get_or-append_seam xs q rest 0)
 
--- what stands before an ASCII byte, and what stands behind it
+-- what is before an ASCII byte, and what follows it
 before_ascii : (xs rest : List ℕ) (q : ℕ) → q < 128 → IsUtf8 (xs ++ q ∷ rest) → IsUtf8 xs
 before_ascii xs rest q small is =
     let here : get_or (xs ++ q ∷ rest) (length xs) 0 < 128 = subst (λ b. b < 128) (sym ((at_seam xs rest q).1)) small in
     subst IsUtf8 (take-append_seam xs (q ∷ rest))
     (IsUtf8-take (xs ++ q ∷ rest) (length xs) is (IsCharBoundary-before_ascii (xs ++ q ∷ rest) (length xs) ((at_seam xs rest q).0) here))
 
-behind_ascii : (xs rest : List ℕ) (q : ℕ) → q < 128 → IsUtf8 (xs ++ q ∷ rest) → IsUtf8 rest
-behind_ascii xs rest q small is =
+after_ascii : (xs rest : List ℕ) (q : ℕ) → q < 128 → IsUtf8 (xs ++ q ∷ rest) → IsUtf8 rest
+after_ascii xs rest q small is =
     let here : get_or (xs ++ q ∷ rest) (length xs) 0 < 128 = subst (λ b. b < 128) (sym ((at_seam xs rest q).1)) small in
     subst IsUtf8 (drop-append-add xs (q ∷ rest) 1)
     (IsUtf8-drop (xs ++ q ∷ rest) (length xs + 1) is (IsCharBoundary-after_ascii (xs ++ q ∷ rest) (length xs) is ((at_seam xs rest q).0) here))
 
--- and what stands up to it
+-- and what is up to it
 through_ascii : (xs rest : List ℕ) (q : ℕ) → q < 128 → IsUtf8 (xs ++ q ∷ rest) → IsUtf8 (xs ++ q ∷ [])
 through_ascii xs rest q small is =
     let here : get_or (xs ++ q ∷ rest) (length xs) 0 < 128 = subst (λ b. b < 128) (sym ((at_seam xs rest q).1)) small in
@@ -51,8 +51,8 @@ step_utf8 q small xs rest inner b c is one two e = on (b == q) refl e
     double : b ≡ q → c ≡ q → ((i : List ℕ) × (undoubled q rest ≡ Some i) × (b ∷ i ≡ inner)) → IsUtf8 (xs ++ inner)
     double is_q is_too (i, found, made) =
         let front : IsUtf8 (xs ++ b ∷ []) = through_ascii xs (c ∷ rest) b (omega arith) is in
-        let tail : IsUtf8 (c ∷ rest) = behind_ascii xs (c ∷ rest) b (omega arith) is in
-        let left : IsUtf8 rest = behind_ascii [] rest c (omega arith) tail in
+        let tail : IsUtf8 (c ∷ rest) = after_ascii xs (c ∷ rest) b (omega arith) is in
+        let left : IsUtf8 rest = after_ascii [] rest c (omega arith) tail in
         joined xs i inner b made (IsUtf8-append (xs ++ b ∷ []) i front (two i left found))
 
     second : (t : Bool) → b ≡ q → (c == q) ≡ t → (if t then also (λ i. b ∷ i) (undoubled q rest) else None) ≡ Some inner → IsUtf8 (xs ++ inner)
@@ -72,7 +72,7 @@ last_utf8 q small xs inner b true same is e =
     let front : IsUtf8 xs = before_ascii xs [] b (omega arith) is in
     subst (λ i. IsUtf8 (xs ++ i)) none (subst IsUtf8 (sym (append-nil xs)) front)
 
--- what stands before the quotes and what they enclose are a text together
+-- what is before the quotes and what they enclose are a text together
 undoubled_utf8 : (q : ℕ) → q < 128 → (xs rest inner : List ℕ) → IsUtf8 (xs ++ rest) → undoubled q rest ≡ Some inner → IsUtf8 (xs ++ inner)
 undoubled_utf8 q small xs [] inner is e = absurd (let bad = e in cc)
 undoubled_utf8 q small xs (b ∷ []) inner is e = last_utf8 q small xs inner b (b == q) refl is e
@@ -90,4 +90,4 @@ unquoted_utf8 q small (b ∷ rest) inner is e = on (b == q) refl e
     on false same e = absurd (let bad = e in cc)
     on true same e =
         let is_q : b ≡ q = eqb-true b q same in
-        undoubled_utf8 q small [] rest inner (behind_ascii [] rest b (omega arith) is) e
+        undoubled_utf8 q small [] rest inner (after_ascii [] rest b (omega arith) is) e

@@ -1,4 +1,4 @@
--- The tokens of a text stand on stretches of it, and their literals can be read.
+-- The tokens of a text are stretches of it, and their literals can be read.
 use Rattle.std.proofs.Common.{◌≡◌, ◌∙◌, ap, refl, ℕ, ◌+◌, ◌≤◌, ◌&&◌, true, List, [], ◌∷◌, ◌++◌, length, arith, ne_eqb}
 use Rattle.std.proofs.Common.{Bool, false, ◌==◌}
 use Rattle.std.specs.Prelude.{nat_lt, ◌^◌, ◌%◌, if◌then◌else◌, slice_range}
@@ -14,9 +14,9 @@ use Rattle.hc_lex.specs.Reading.{HasTokens}
 use Rattle.hc_grammar.specs.Lexemes.{lexemes_of}
 use Rattle.hc_grammar.specs.Kinds.{keyword_number}
 use Rattle.hc_parse.specs.Pieces.{are_hex_pairs, are_blob_digits, is_sound, AreSound}
-use Rattle.hc_parse.proofs.Texts.Given.{AreTokens, tokens_given}
+use Rattle.hc_grammar.proofs.Again.Given.{AreTokens, tokens_given}
 
--- digits in pairs, with a quote behind them
+-- digits in pairs, with a quote after them
 pairs : (digits : List ℕ) → IsRun run.Blob digits → length digits % 2 ≡ 0 → are_hex_pairs (digits ++ 39 ∷ []) ≡ true
 pairs [] are even = refl
 pairs (high ∷ []) are even = absurd (let bad = even in cc)

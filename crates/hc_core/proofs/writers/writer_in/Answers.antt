@@ -1,17 +1,17 @@
-use Rattle.std.proofs.Common.{◌≡◌, ◌∙◌, sym, ap, true}
+use Rattle.std.proofs.Common.{◌≡◌, ◌∙◌, sym, true}
 use Rattle.hc_core.specs.Running.{holds_key}
 use Rattle.hc_core.proofs.Steps.{held_of, not_both_ways, written_of, when_map, when_never}
 use Rattle.hc_core.proofs.writers.writer_in.Goals as goal
 
 -- what is kept does not have the key
-pub returns-then-not-has_key : goal.returns-then-not-has_key
-returns-then-not-has_key c = λ h.
+pub returns-then-not-has : goal.returns-then-not-has
+returns-then-not-has c = λ h.
     when_never _ _ _ (λ t k q. not_both_ways _ (held_of c.in-Some.running.now t c.args.key.now k q.0 q.1)
-    (ap (λ ws. holds_key c.args.key.now ws) (sym c.as_slice.ensures.value) ∙ sym c.has_key.ensures ∙ c.if-not-has_key.true)) c.in-Some.ensures h
+    (sym c.has.ensures ∙ c.if-not-has.true)) c.in-Some.ensures h
 
 -- and here it does
 pub returns : goal.returns
 returns c =
-    let held : holds_key c.args.key.now c.in-Some.running.now.writes.items ≡ true =
-    ap (λ ws. holds_key c.args.key.now ws) (sym c.as_slice.ensures.value) ∙ sym c.has_key.ensures ∙ c.if-not-has_key.false in
+    let held : holds_key c.args.key.now c.in-Some.running.now.writes.put ≡ true =
+    sym c.has.ensures ∙ c.if-not-has.false in
     when_map _ _ _ (λ t k. let s = written_of c.in-Some.running.now t c.args.key.now k c.if-running-ne0.false held in (s.1, s.0, k.id, k.ord)) c.in-Some.ensures

@@ -1,5 +1,5 @@
 -- With a record of zeros the entry would have 53 words, and all 271.
-use Rattle.std.proofs.Common.{◌≡◌, ◌≤◌, List, ℕ, length, Some, None, refl, sym, ap, ◌∙◌, inl, inr, arith, true, false}
+use Rattle.std.proofs.Common.{◌≡◌, List, ℕ, length, Some, None, ◌∙◌, inl, inr, arith}
 use Rattle.std.specs.Prelude.{replicate}
 use Rattle.std.proofs.lemmas.List.{length-replicate}
 use Rattle.std.proofs.lemmas.Bool.{cases_Bool}

@@ -1,4 +1,4 @@
--- No `*/` has stood so far, and each turn takes a byte.
+-- No `*/` was read so far, and each turn takes a byte.
 use Rattle.std.proofs.Common.{length}
 use Rattle.hc_lex.proofs.Closes.{NoCloseSoFar}
 use Rattle.hc_lex.proofs.blanks.skip_to_close.Given as goal

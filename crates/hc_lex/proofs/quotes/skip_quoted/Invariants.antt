@@ -1,4 +1,4 @@
--- What was read stands within the quotes, and each turn takes a byte at least.
+-- What was read is within the quotes, and each turn takes a byte at least.
 use Rattle.std.proofs.Common.{length}
 use Rattle.hc_lex.proofs.Quoted.{QuotedSoFar}
 use Rattle.hc_lex.proofs.quotes.skip_quoted.Given as goal

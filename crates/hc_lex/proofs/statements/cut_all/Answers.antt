@@ -1,8 +1,9 @@
-use Rattle.std.proofs.Common.{◌≤◌, length, subst, arith, refl}
+use Rattle.std.proofs.Common.{◌≡◌, ◌∙◌, ◌+◌, ◌-◌, ◌<◌, ◌≤◌, length, ap, subst, arith, refl, length-append}
+use Rattle.hc_lex.specs.declared.statements.Span.{Span}
 use Rattle.hc_lex.specs.Pieces.{Skips}
 use Rattle.hc_lex.specs.Statements.{IsPart}
 use Rattle.hc_lex.proofs.Lengths.{part_moves}
-use Rattle.hc_lex.proofs.SpansSoFar.{all_cut, blank_read, end_read, no_span_yet, own_read, unread_within}
+use Rattle.hc_lex.proofs.SpansSoFar.{all_cut, blank_read, end_read, no_span_yet, own_read, unread_within, ordinary_read}
 use Rattle.hc_lex.proofs.statements.cut_all.Goals as goal
 
 pub loop-first-init : goal.loop-first-init
@@ -14,7 +15,10 @@ overflow_sub-from c = unread_within c.args.bytes.now c.loop-first.rest.now _ _ c
 pub overflow_sub-to : goal.overflow_sub-to
 overflow_sub-to c =
     let within : length c.loop-first.rest.now ≤ length c.args.bytes.now = unread_within c.args.bytes.now c.loop-first.rest.now _ _ c.loop-first.invariant in
-    omega (arith, part_moves _ c.loop-first.rest.now c.read_part-part.result.1.now c.read_part-part.ensures)
+    let word = c.skip_ordinary-rest.ensures in
+    let shorter : length c.read_part-part.result.1.now ≡ length word.0 + length c.skip_ordinary-rest.result.now = ap length word.1 ∙ length-append word.0 c.skip_ordinary-rest.result.now in
+    let moves : length c.read_part-part.result.1.now < length c.loop-first.rest.now = part_moves _ c.loop-first.rest.now c.read_part-part.result.1.now c.read_part-part.ensures in
+    omega (arith, within, shorter, moves)
 
 pub loop-first-preserved-in-Blank : goal.loop-first-preserved-in-Blank
 loop-first-preserved-in-Blank c =
@@ -23,9 +27,14 @@ loop-first-preserved-in-Blank c =
 
 pub loop-first-preserved-in-Statement : goal.loop-first-preserved-in-Statement
 loop-first-preserved-in-Statement c =
-    own_read c.args.bytes.now c.loop-first.rest.now c.read_part-part.result.1.now _ c.loop-first.unfinished c.with_bytes.result _ _ c.loop-first.invariant
-    (subst (λ part. Skips (IsPart part) c.loop-first.rest.now c.read_part-part.result.1.now) c.in-Statement.is c.read_part-part.ensures)
-    refl refl c.with_bytes.ensures.from c.with_bytes.ensures.to (part_moves _ c.loop-first.rest.now c.read_part-part.result.1.now c.read_part-part.ensures)
+    let after = c.read_part-part.result.1.now in
+    let word = c.skip_ordinary-rest.ensures in
+    let before : Span = record { from = c.with_bytes.result.from; to = length c.args.bytes.now - length after } in
+    ordinary_read word.0 c.args.bytes.now after c.skip_ordinary-rest.result.now _ before c.with_bytes.result
+    (own_read c.args.bytes.now c.loop-first.rest.now after _ c.loop-first.unfinished before _ (length c.args.bytes.now - length after) c.loop-first.invariant
+    (subst (λ part. Skips (IsPart part) c.loop-first.rest.now after) c.in-Statement.is c.read_part-part.ensures)
+    refl refl c.with_bytes.ensures.from refl (part_moves _ c.loop-first.rest.now after c.read_part-part.ensures))
+    word.1 word.2 refl refl c.with_bytes.ensures.to
 
 pub loop-first-preserved : goal.loop-first-preserved
 loop-first-preserved c =

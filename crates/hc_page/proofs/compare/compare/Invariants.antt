@@ -6,4 +6,4 @@ use Rattle.hc_page.specs.Reading.{IsKeyAt}
 use Rattle.hc_page.proofs.compare.compare.Given as goal
 
 abbrev pub invariant-words : goal.invariant-words
-invariant-words l = (bytes : List ℕ) → IsKeyAt l.page.words l.key.at l.key.len bytes → first_bytes (8 * l.j) bytes l.sought ≡ Equal
+invariant-words l = (bytes : List ℕ) → IsKeyAt l.page.words l.key.at l.key.len bytes → first_bytes (8 * l.j) bytes l.sought.bytes.now ≡ Equal

@@ -40,5 +40,11 @@ returns c = record {
       let h = c.requires.leaf in
       let words = c.args.page.now.words in
       let r = version_read words d c.args.slot entry page (same_level words d h.0 page h.2 ∙ h.3) there in
-      rw (c.older.ensures, c.place-first.ensures) r.tells;
+      rw (c.older.ensures.older, c.place-first.ensures) r.tells;
+  key_within =
+      let h = c.requires.leaf in
+      let r = version_read c.args.page.now.words h.0 c.args.slot h.1 h.2 h.3 h.4 in rw c.place-first.ensures (omega (arith, r.fits));
+  rec_within =
+      let h = c.requires.leaf in
+      let r = version_read c.args.page.now.words h.0 c.args.slot h.1 h.2 h.3 h.4 in rw c.place-first.ensures (omega (arith, r.fits));
 }

@@ -17,5 +17,5 @@ returns c =
     record {
       written = subst (λ n. IsWritten c.args.out.now.words c.write_bytes.new.out.words c.args.at (n ∷ words_of key)) is (written_one c.args.out.now.words c.write_bytes.new.out.words c.args.at head (words_of key) (omega (arith, c.requires.room))
           (subst (λ bs. IsWritten (set c.args.out.now.words c.args.at head) c.write_bytes.new.out.words (c.args.at + 1) (words_of bs)) (append-nil key) c.write_bytes.ensures));
-      len = omega (arith, words_of-length key);
+      len = c.child_size.ensures c.args.child;
     }

@@ -1,18 +1,12 @@
 -- Two words, and then the bytes of key and record.
-use Rattle.std.proofs.Common.{◌≡◌, ◌+◌, ◌*◌, ◌/◌, ◌^◌, ◌≤◌, ◌++◌, ◌∷◌, List, ℕ, length, set, ap, sym, subst, arith, length-append}
+use Rattle.std.proofs.Common.{◌≡◌, ◌+◌, ◌*◌, ◌^◌, ◌≤◌, ◌++◌, ◌∷◌, List, ℕ, length, set, subst, arith}
 use Rattle.std.specs.Option.{option_copied}
 use Rattle.hc_base.specs.Layout.{words_of, record_bytes, record_flags, older_word, entry_words}
-use Rattle.hc_base.proofs.Places.{words_of-length}
 use Rattle.hc_page.specs.Drafts.{IsWritten, entry_of}
 use Rattle.hc_page.specs.declared.writer.NewEntry.{NewEntry}
+use Rattle.hc_page.proofs.Sizes.{new_size}
 use Rattle.hc_page.proofs.Written.{written_two}
 use Rattle.hc_page.proofs.writer.write_version.Goals as goal
-
--- how many words they are
-size : (new : NewEntry) (record_now : List ℕ) → record_now ≡ record_bytes (option_copied new.rec) → length (entry_words (entry_of new)) ≡ 2 + (length new.key.now + length record_now + 7) / 8
-size new record_now is =
-    let rb = record_bytes (option_copied new.rec) in
-    omega (arith, words_of-length (new.key.now ++ rb), length-append new.key.now rb, ap (λ bs. length bs) is)
 
 -- the words that are written are those of the entry
 all_written : (new : NewEntry) (old now : List ℕ) (at head older : ℕ) (record_now : List ℕ) → record_now ≡ record_bytes (option_copied new.rec) → at + 2 ≤ length old
@@ -30,13 +24,13 @@ all_written new old now at head older record_now is room head_is older_is writes
     (subst (λ n. IsWritten old now at (n ∷ older ∷ words_of (key ++ record_now))) head_is whole))
 
 pub write_bytes-requires : goal.write_bytes-requires
-write_bytes-requires c = omega (arith, size c.args.new.now c.bytes_of-record.result.now c.bytes_of-record.ensures.record, c.requires.room)
+write_bytes-requires c = omega (arith, new_size c.args.new.now c.bytes_of-record.result.now c.bytes_of-record.ensures.record, c.requires.room)
 
 pub returns : goal.returns
 returns c =
-    let long = size c.args.new.now c.bytes_of-record.result.now c.bytes_of-record.ensures.record in
+    let long = new_size c.args.new.now c.bytes_of-record.result.now c.bytes_of-record.ensures.record in
     record {
       written = all_written c.args.new.now c.args.out.now.words c.write_bytes.new.out.words c.args.at c.version_head.result c.older_number.result c.bytes_of-record.result.now c.bytes_of-record.ensures.record
           (omega (arith, long, c.requires.room)) c.version_head.ensures c.older_number.ensures c.write_bytes.ensures;
-      len = sym long;
+      len = c.version_size.ensures;
     }

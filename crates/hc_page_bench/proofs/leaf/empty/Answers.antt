@@ -1,6 +1,6 @@
 -- Nothing is needed of an empty leaf.
-use Rattle.std.proofs.Common.{◌≡◌, refl, sym, ◌∙◌, arith}
-use Rattle.hc_page_bench.proofs.Open.{empty_leaf, empty_content}
+use Rattle.std.proofs.Common.{refl, sym, ◌∙◌}
+use Rattle.hc_page.proofs.Open.{empty_leaf, empty_content}
 use Rattle.hc_page_bench.proofs.leaf.empty.Goals as goal
 
 pub returns : goal.returns

@@ -8,7 +8,7 @@ use Rattle.hc_grammar.specs.Runs.{Run, made}
 use Rattle.hc_grammar.proofs.Places.Asked.{whole_is, negation_is, signed_is}
 use Rattle.hc_parse.specs.Coded.{Gives, within}
 use Rattle.hc_parse.specs.Seen.{left, budget_of}
-use Rattle.hc_parse.proofs.Climbs.{climb_none, climbs_on, climbs_halt, climbs_end, climbs_all}
+use Rattle.hc_parse.proofs.Climbs.{climb_none, first_halts, first_on, climbs_on, climbs_halt, climbs_end, climbs_all}
 use Rattle.hc_parse.proofs.Lists.{listed_on, same_answer}
 use Rattle.hc_parse.proofs.Operators.{after_negation, after_operand, made_halts, sign_tail_is, word_tail_is}
 use Rattle.hc_parse.specs.Tails.{answer_seen}
@@ -66,27 +66,47 @@ read_operators-returns-then-not-is_between t c =
     (sym c.begins_negation.ensures ∙ c.if-begins_negation.false) c.in_ok-first.ensures
     ∙ climb_none c.args.levels c.args.least (length (left c.args.source.now c.read_signed.new.cursor)) 8 c.in_ok-first.first (budget_of c.read_signed.new.cursor)
     (left c.args.source.now c.read_signed.new.cursor)
-    (ap (λ q. is_between c.args.least q 8) (sym c.next_precedence.ensures.is) ∙ sym c.is_between.ensures ∙ c.if-not-is_between.true)
+    (ap (λ q. is_between c.args.least q 8) (sym c.next_precedence-precedence.ensures.is) ∙ sym c.is_between.ensures ∙ c.if-not-is_between.true)
 
-pub read_operators-returns-in_err-value-2 : goal.read_operators-returns-in_err-value-2
-read_operators-returns-in_err-value-2 t c =
-    let s : Gives {A = Expr} c.args.source.now (Err c.in_err-value-2.field-0.0) c.read_tails.new.cursor (within c.args.source.now c.args.levels (operators_from c.args.least) c.args.cursor.now) =
-    subst (λ (r : Run Expr). Gives {A = Expr} c.args.source.now (Err c.in_err-value-2.field-0.0) c.read_tails.new.cursor r)
+pub read_operators-returns : goal.read_operators-returns
+read_operators-returns t c =
+    subst (λ (r : Run Expr). Gives {A = Expr} c.args.source.now c.read_sequence.result c.read_sequence.new.cursor r)
     (sym (after_operand c.args.levels c.args.least (budget_of c.args.cursor.now) (budget_of c.read_signed.new.cursor) (left c.args.source.now c.args.cursor.now)
     (left c.args.source.now c.read_signed.new.cursor) c.in_ok-first.first (omega arith) (omega arith)
     (sym c.begins_negation.ensures ∙ c.if-begins_negation.false) c.in_ok-first.ensures
     ∙ ap (λ x. climb c.args.levels c.args.least (length (left c.args.source.now c.read_signed.new.cursor)) 8 x (budget_of c.read_signed.new.cursor)
-    (left c.args.source.now c.read_signed.new.cursor)) (sym c.in_ok-first-2.ensures))) c.in_err-value-2.ensures in
+    (left c.args.source.now c.read_signed.new.cursor)) (sym c.in_ok-first-2.ensures))) c.read_sequence.ensures
+
+pub read_sequence-returns-in_err-tail : goal.read_sequence-returns-in_err-tail
+read_sequence-returns-in_err-tail t c =
+    let s : Gives {A = Expr} c.args.source.now (Err c.in_err-tail.field-0.0) c.read_tail.new.cursor
+    (climb c.args.levels c.args.least (length (left c.args.source.now c.args.cursor.now)) 8 c.args.first (budget_of c.args.cursor.now) (left c.args.source.now c.args.cursor.now)) =
+    first_halts c.args.levels c.args.least (omega (arith, c.requires.least)) c.args.precedence c.args.first c.args.source.now c.args.cursor.now c.read_tail.new.cursor c.in_err-tail.field-0.0
+    c.requires.next c.requires.between c.in_err-tail.ensures in
     search rules
 
-pub read_operators-returns : goal.read_operators-returns
-read_operators-returns t c =
-    after_operand c.args.levels c.args.least (budget_of c.args.cursor.now) (budget_of c.read_signed.new.cursor) (left c.args.source.now c.args.cursor.now)
-    (left c.args.source.now c.read_signed.new.cursor) c.in_ok-first.first (omega arith) (omega arith)
-    (sym c.begins_negation.ensures ∙ c.if-begins_negation.false) c.in_ok-first.ensures
-    ∙ ap (λ x. climb c.args.levels c.args.least (length (left c.args.source.now c.read_signed.new.cursor)) 8 x (budget_of c.read_signed.new.cursor)
-    (left c.args.source.now c.read_signed.new.cursor)) (sym c.in_ok-first-2.ensures)
-    ∙ same_answer c.args.source.now c.read_tails.new.cursor c.read_tails.new.cursor c.in_ok-value-2.ensures c.into_inner-2.ensures refl
+pub read_sequence-returns-then-not-is_between : goal.read_sequence-returns-then-not-is_between
+read_sequence-returns-then-not-is_between t c =
+    first_on c.args.levels c.args.least (omega (arith, c.requires.least)) c.args.precedence c.args.first c.joined-value.result _ c.args.source.now c.args.cursor.now c.read_tail.new.cursor
+    c.requires.next c.requires.between c.in_ok-tail.ensures c.joined-value.ensures
+    ∙ climb_none c.args.levels c.args.least (length (left c.args.source.now c.read_tail.new.cursor)) c.args.precedence c.joined-value.result (budget_of c.read_tail.new.cursor)
+    (left c.args.source.now c.read_tail.new.cursor)
+    (ap (λ q. is_between c.args.least q c.args.precedence) (sym c.next_precedence.ensures.is) ∙ sym c.is_between.ensures ∙ c.if-not-is_between.true)
+
+pub read_sequence-returns-in_err-value-2 : goal.read_sequence-returns-in_err-value-2
+read_sequence-returns-in_err-value-2 t c =
+    let s : Gives {A = Expr} c.args.source.now (Err c.in_err-value-2.field-0.0) c.read_tails.new.cursor
+    (climb c.args.levels c.args.least (length (left c.args.source.now c.args.cursor.now)) 8 c.args.first (budget_of c.args.cursor.now) (left c.args.source.now c.args.cursor.now)) =
+    subst (λ (r : Run Expr). Gives {A = Expr} c.args.source.now (Err c.in_err-value-2.field-0.0) c.read_tails.new.cursor r)
+    (sym (first_on c.args.levels c.args.least (omega (arith, c.requires.least)) c.args.precedence c.args.first c.in_ok-value.value _ c.args.source.now c.args.cursor.now c.read_tail.new.cursor
+    c.requires.next c.requires.between c.in_ok-tail.ensures (c.in_ok-value.ensures ∙ c.joined-value.ensures))) c.in_err-value-2.ensures in
+    search rules
+
+pub read_sequence-returns : goal.read_sequence-returns
+read_sequence-returns t c =
+    first_on c.args.levels c.args.least (omega (arith, c.requires.least)) c.args.precedence c.args.first c.in_ok-value.value _ c.args.source.now c.args.cursor.now c.read_tail.new.cursor
+    c.requires.next c.requires.between c.in_ok-tail.ensures (c.in_ok-value.ensures ∙ c.joined-value.ensures)
+    ∙ same_answer c.args.source.now c.read_tails.new.cursor c.read_tails.new.cursor c.in_ok-value-2.ensures c.into_inner.ensures refl
 
 pub read_tails-operators-preserved : goal.read_tails-operators-preserved
 read_tails-operators-preserved t c =

@@ -29,6 +29,9 @@ decreases-read_within l = l.levels * 128 + 100
 abbrev pub decreases-read_operators : goal.decreases-read_operators
 decreases-read_operators l = l.levels * 128 + (8 * (10 - l.least) + 7)
 
+abbrev pub decreases-read_sequence : goal.decreases-read_sequence
+decreases-read_sequence l = l.levels * 128 + (8 * (10 - l.least) + 6)
+
 abbrev pub decreases-read_boxed : goal.decreases-read_boxed
 decreases-read_boxed l = l.levels * 128 + (8 * (10 - l.least) + 6)
 

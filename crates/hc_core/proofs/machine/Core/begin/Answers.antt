@@ -22,7 +22,7 @@ overflow_cast-snapshot c =
 pub invariant_of-self : goal.invariant_of-self
 invariant_of-self c =
     let within : c.args.conn < length c.self.inside.conns.items = omega (arith, c.if-index-len.false, c.len.ensures, c.self.inside.conns.ok.0) in
-    kept_begun _ _ _ _ _ _ _ _ (entry_is _ _ _ _ _ _ _ _ c.begin.ensures.account c.index_mut.ensures.value within c.begin.ensures.outcome) c.requires.event
+    kept_begun _ _ _ _ _ _ _ _ (entry_is _ _ _ _ _ _ _ _ c.begin.ensures.account c.index_mut.ensures.value within refl) refl
     _ _ c.self.invariant
     (inl (
       (within, subst (λ m. IsIdle (txns_of m c.args.conn)) (sym c.self.view_is) (none_idle _ _ _ c.open.ensures (sym c.is_some.ensures ∙ c.if-is_some.false))),

@@ -44,12 +44,12 @@ invariant_of-self-2 c =
     let enabled = draw_enabled m c.args.conn c.args.ord c.last_ord.result c.in-Some.running.now _ _ found c.if-running-ne0.false
     c.index.ensures c.last_ord.ensures c.if-ord-last_ord.false c.self.invariant.bounded c.if-self.false in
     rw c.in_ok-reserve.ensures.items (kept_entered _ _ _ _ _ _ _ _
-    (entry_is _ _ _ _ _ _ _ _ c.draw.ensures.account c.index_mut.ensures.value within c.draw.ensures.outcome) c.requires.event
+    (entry_is _ _ _ _ _ _ _ _ c.draw.ensures.account c.index_mut.ensures.value within refl) refl
     _ _ (c.self.inside.drawn + 1) c.self.inside.log.items (record o.t { id = c.self.inside.drawn + 1; ord = c.args.ord } ∷ o.rest) c.self.invariant
     (inl (enabled, refl)) within refl
     (ap (newest_changed (after_draw c.args.ord (Drew (record { 0 = c.self.inside.drawn + 1 })))) o.is)
     (commits_changed (txns_of m) c.args.conn o.t _ o.rest 1 c.self.inside.log.items o.is settles (omega arith) c.self.invariant.logged)
-    (short_changed _ _ _ _ _ _ _ _ (entry_is _ _ _ _ _ _ _ _ c.draw.ensures.account c.index_mut.ensures.value within c.draw.ensures.outcome) c.requires.event
+    (short_changed _ _ _ _ _ _ _ _ (entry_is _ _ _ _ _ _ _ _ c.draw.ensures.account c.index_mut.ensures.value within refl) refl
     _ o.t _ o.rest c.self.invariant o.is settles)
     (omega (arith, c.self.invariant.bounded, c.if-self.false))
     (omega (arith, c.in_ok-reserve.ensures.ok, c.in_ok-reserve.ensures.len, c.len.ensures, log_length c.self.inside.log, log_within _ c.self.invariant.sound)))

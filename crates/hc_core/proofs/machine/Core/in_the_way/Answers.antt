@@ -1,4 +1,5 @@
-use Rattle.std.proofs.Common.{◌≡◌, sym, subst, get_or, ℕ, List, [], MatchOption}
+use Rattle.std.proofs.Common.{◌≡◌, ⊎_elim, sym, subst, get_or, ℕ, List, [], MatchOption}
+use Rattle.std.proofs.lemmas.Bool.{cases_eq}
 use Rattle.std.proofs.lemmas.List.{length-map}
 use Rattle.hc_core.specs.Account.{HasWritten, Txn, WhenOpen, txns}
 use Rattle.hc_core.specs.Commits.{IsMetAbove, IsNoneAbove}
@@ -17,8 +18,12 @@ pub returns : goal.returns
 returns c =
     let m = machine_of c.self.inside.drawn c.self.inside.log.items c.self.inside.conns.items in
     let none_open : (j : ℕ) → WhenOpen (txns_of m j) (λ t. (t.place ≡ 0) × HasWritten t c.args.key.now) → ⊥ =
-    λ j. subst (λ (conns : List (List Entry)). WhenOpen (txns (get_or conns j [])) (λ t. (t.place ≡ 0) × HasWritten t c.args.key.now) → ⊥)
-    c.as_slice.ensures.value (c.in_default.ensures j) in
+    λ j. ⊎_elim
+    (λ (own : j ≡ c.args.conn). subst (λ (n : Machine). WhenOpen (txns_of n j) (λ t. (t.place ≡ 0) × HasWritten t c.args.key.now) → ⊥) (sym c.self.view_is)
+    (subst (λ k. WhenOpen (txns_of c.args.self.now k) (λ t. (t.place ≡ 0) × HasWritten t c.args.key.now) → ⊥) (sym own) c.requires.own))
+    (λ other. subst (λ (conns : List (List Entry)). WhenOpen (txns (get_or conns j [])) (λ t. (t.place ≡ 0) × HasWritten t c.args.key.now) → ⊥)
+    c.as_slice.ensures.value (c.in_default.ensures j other))
+    (cases_eq j c.args.conn) in
     let Free : Machine → Type 0 = λ n. (i : ℕ) → IsFree (txns_of n) i c.args.snapshot c.args.key.now in
     let Meets : Machine → MetRecord → Type 0 = λ n met. (i : ℕ) → (WhenOpen (txns_of n i) (λ t. (t.place ≡ 0) × HasWritten t c.args.key.now) → ⊥)
     → (j : ℕ) × (u : Txn) × IsInTheWay (txns_of n) i c.args.snapshot c.args.key.now j u × Names met j u c.args.key.now in

@@ -14,7 +14,7 @@ pub returns-in-Some : goal.returns-in-Some
 returns-in-Some c =
     subst (λ (ranges : List Range). (c.is_end_at_most.result ≡ true) ↔ Includes ranges c.args.part.now) (c.as_slice.ensures.value ∙ c.self.view_is)
     (Includes-iff_ends c.as_slice.result.now c.in-Some.range.now c.args.part.now c.is_end_at_most.result
-    (subst IsNormal (sym c.as_slice.ensures.value) c.self.invariant) c.in-Some.ensures.found.0
+    (subst IsNormal (sym c.as_slice.ensures.value) c.self.invariant.0) c.in-Some.ensures.found.0
     (subst (λ (key : List ℕ). InRange c.in-Some.range.now key) c.as_slice-2.ensures c.in-Some.ensures.found.1) c.is_end_at_most.ensures)
 
 pub returns-in-None : goal.returns-in-None

@@ -1,0 +1,10 @@
+-- Its bytes are bytes.
+use Rattle.std.proofs.Common.{arith}
+use Rattle.hc_page.proofs.Open.{bytes_are}
+use Rattle.hc_engine_tests.proofs.leaves.version.Goals as goal
+
+pub returns-clause-entry : goal.returns-clause-entry
+returns-clause-entry c = (
+  (omega (arith, c.ranges.tid.fits), bytes_are c.args.rec.now (omega (arith, c.requires.rec)) c.type_inv.rec, c.requires.older),
+  bytes_are c.args.key.now (omega (arith, c.requires.key)) c.type_inv.key,
+)

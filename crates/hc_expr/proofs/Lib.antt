@@ -1,0 +1,3 @@
+mod Likeness
+mod Lists
+mod Sayings

@@ -1,0 +1,8 @@
+//! How each table of a statement is reached.
+#![tactic(auto)]
+
+mod pins;
+mod planning;
+
+pub use hc_schema::Path;
+pub use planning::path;

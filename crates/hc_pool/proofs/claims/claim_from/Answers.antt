@@ -1,0 +1,32 @@
+-- Page after page is found taken, up to one that is free.
+use Rattle.std.proofs.Common.{◌≡◌, ◌+◌, ◌≤◌, ◌<◌, ◌⊎◌, inl, inr, ℕ, sym, ap, subst, ◌∙◌, arith}
+use Rattle.std.proofs.lemmas.Bool.{cases_lt}
+use Rattle.hc_rule.specs.declared.view.View.{View}
+use Rattle.hc_pool.specs.Claiming.{Claims}
+use Rattle.hc_pool.proofs.Finds.{finds_both, claims_after}
+use Rattle.hc_pool.proofs.claims.claim_from.Goals as goal
+
+pub returns-then-try_claim-clause-claimed : goal.returns-then-try_claim-clause-claimed
+returns-then-try_claim-clause-claimed c =
+    let v = c.args.grip.now.seat.me.0 in
+    let w = c.pages.grip.seat.me.0 in (
+      (omega arith, omega (arith, c.requires.upto)),
+      subst (λ (x : View). Claims c.pages.number v x) (sym (ap (λ m. m.0) c.begin_at.ensures.same.2))
+          (claims_after c.pages.number v w c.try_claim.new.grip.seat.me.0 (λ p. (c.args.from ≤ p) × (p < c.pages.number)) c.pages.invariant.found c.if-try_claim.ensures.tried),
+    )
+
+-- the pages up to this one, and this one
+up_to : (from n p : ℕ) → (from ≤ p) × (p < n + 1) → ((from ≤ p) × (p < n)) ⊎ (p ≡ n)
+up_to from n p within =
+    elim (cases_lt p n) [
+      | inl before ↦ inl (within.0, before)
+      | inr past ↦ inr (omega (arith, within.1, past))
+    ]
+
+pub pages-preserved : goal.pages-preserved
+pages-preserved c = record {
+  found =
+      finds_both c.args.grip.now.seat.me.0 c.pages.grip.seat.me.0 c.try_claim.new.grip.seat.me.0 (λ p. (c.args.from ≤ p) × (p < c.pages.number)) (λ p. p ≡ c.pages.number) (λ p. (c.args.from ≤ p) × (p < c.pages.number + 1))
+      (up_to c.args.from c.pages.number) c.pages.invariant.found c.if-try_claim.ensures.tried;
+  same = (c.try_claim.ensures.same.0 ∙ c.pages.invariant.same.0, c.try_claim.ensures.same.1 ∙ c.pages.invariant.same.1);
+}

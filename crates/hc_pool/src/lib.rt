@@ -1,0 +1,6 @@
+//! Hands out the pages of the engine's table, and takes them back.
+#![tactic(auto)]
+
+mod claims;
+
+pub use claims::{claim, give_back};

@@ -1,0 +1,2 @@
+pub mod RowSizes
+pub mod Steps

@@ -1,0 +1,5 @@
+pub mod Deal
+pub mod LoadPage
+pub mod Rows
+pub mod StorePage
+pub mod TakePage

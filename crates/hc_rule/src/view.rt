@@ -1,0 +1,78 @@
+//! What a seat knows.
+use hc_base::{Cid, Logical, Phys, SeatWord, Tid};
+use hc_core::Account;
+use std::collections::LinkedList;
+
+/// Whose seat it is.
+#[derive(Drop)]
+pub enum Role {
+    /// It deals a seat to each connection; those below this number have theirs.
+    Dealer { dealt: u32 },
+    /// The connection's.
+    Connection(u32),
+    /// A note from one seat to another, or a seat that was joined to another.
+    Nobody,
+}
+
+/// The account of a connection, as far as a seat was told.
+#[derive(Drop)]
+pub struct Told {
+    pub conn: u32,
+    pub account: Account,
+}
+
+/// A page and its row.
+#[derive(Drop)]
+pub struct Row {
+    pub page: Phys,
+    pub words: LinkedList<u64>,
+}
+
+/// The word of a page, as a step found it.
+#[derive(Drop)]
+pub struct Found {
+    pub page: Phys,
+    pub word: u64,
+}
+
+/// What was claimed.
+#[derive(Drop)]
+pub enum Claimed {
+    Page(Phys),
+    Number(Logical),
+}
+
+/// What was claimed for a transaction, where one had drawn its id.
+#[derive(Drop)]
+pub struct Claim {
+    pub tid: Option<Tid>,
+    pub claimed: Claimed,
+}
+
+/// What a seat knows. Contracts alone see it, and no code makes one. All lists have the newest first.
+#[derive(Drop)]
+pub struct View {
+    pub role: Role,
+    /// The accounts of its own connection and of those that it was told of.
+    pub accounts: LinkedList<Told>,
+    /// How many places of the log it has seen taken.
+    pub seen: Cid,
+    /// The word of its connection.
+    pub stage: SeatWord,
+    /// The pages that it reached since its transaction began, with their rows.
+    pub loaded: LinkedList<Row>,
+    /// The pages that it knows to be replaced.
+    pub replaced: LinkedList<Phys>,
+    /// The pages that it owns, with what it wrote.
+    pub pages: LinkedList<Row>,
+    /// The pages whose words say that they are mapped, and that the map is about to name.
+    pub ready: LinkedList<Row>,
+    /// The pages that its transaction replaced while it is undecided.
+    pub pending: LinkedList<Phys>,
+    /// The logical numbers in its hand.
+    pub numbers: LinkedList<Logical>,
+    /// The words of pages that its steps found.
+    pub found: LinkedList<Found>,
+    /// What it claimed.
+    pub claimed: LinkedList<Claim>,
+}

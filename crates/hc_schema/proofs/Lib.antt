@@ -1,0 +1,16 @@
+mod CatalogKeys
+mod EntryKinds
+mod GoodEntries
+mod Lowered
+mod NameLists
+mod OneRecord
+mod Orders
+mod Pairs
+mod Recovered
+mod RowCells
+mod SameDatabases
+mod SamePlaces
+mod Shortness
+mod Singles
+mod TableCells
+mod TreeNumbers

@@ -1,0 +1,5 @@
+-- The page of the load.
+use Rattle.hc_steps.proofs.grip.Grip.load_page.Given as goal
+
+abbrev pub ghosts-load_page_as : goal.ghosts-load_page_as
+ghosts-load_page_as a = record { page = a.p.0 }

@@ -1,0 +1,5 @@
+-- The page of the exchange.
+use Rattle.hc_steps.proofs.grip.Grip.take_page.Given as goal
+
+abbrev pub ghosts-take_page_as : goal.ghosts-take_page_as
+ghosts-take_page_as a = record { page = a.p.0 }

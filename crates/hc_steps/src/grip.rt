@@ -1,0 +1,45 @@
+//! A seat at the table, with what its owner needs beside it.
+ghost use Rattle.std.specs.Prelude.{◌≡◌, ◌<◌, ◌≤◌};
+ghost use Rattle.hc_rows.specs.Places.{IsLayout, HasPage, total};
+ghost use Rattle.hc_rule.specs.Views.{bare};
+ghost use Rattle.hc_rule.specs.declared.view.Role.TheVariants.{Connection};
+
+use atomic_table::{Seat, Shared};
+use hc_base::Phys;
+use hc_rows::Layout;
+use hc_rule::{Rule, View};
+
+/// A connection's access to the table. Its seat's view is what it knows.
+#[derive(Drop)]
+pub struct Grip<'a> {
+    pub(crate) table: &'a Shared<(), View, Layout, Rule>,
+    pub layout: Layout,
+    pub conn: u8,
+    /// Where the next claim of a page begins.
+    pub(crate) hint: u32,
+    pub seat: Seat<(), View>,
+    ghost of_table: { seat.table_id ≡ table.now.table_id },
+    ghost keyed: { table.now.key ≡ layout },
+    ghost sized: { table.now.table_id.words ≡ total layout },
+    ghost ranged: { IsLayout layout },
+    ghost hinted: { HasPage layout hint },
+    ghost bare_seat: { seat.me ≡ bare seat.me.0 },
+    ghost connected: { seat.me.0.role ≡ Connection conn },
+}
+
+impl<'a> Grip<'a> {
+    /// Where the next claim of a page begins.
+    pub fn hint(&self) -> Phys
+        ensures { HasPage self.now.layout result.0 }
+    {
+        Phys(self.hint)
+    }
+
+    /// The next claim of a page begins at this one.
+    pub fn begin_at(&mut self, p: Phys)
+        requires page { HasPage self.old.layout p.0 }
+        ensures same { (self.new.layout ≡ self.old.layout) × (self.new.conn ≡ self.old.conn) × (self.new.seat.me ≡ self.old.seat.me) }
+    {
+        self.hint = p.0;
+    }
+}

@@ -1,0 +1,180 @@
+//! Steps on the word of a page.
+ghost use Rattle.std.specs.Prelude.{◌≡◌, ℕ};
+ghost use Rattle.hc_base.specs.Words.{IsPageWord, page_word};
+ghost use Rattle.hc_rows.specs.Places.{IsLayout, HasPage, total};
+ghost use Rattle.hc_rule.specs.Views.{bare};
+ghost use Rattle.hc_base.specs.declared.page_word.PageWord.{PageWord as Form};
+ghost use Rattle.hc_base.specs.declared.page_word.PageWord.TheVariants.{Free};
+ghost use Rattle.hc_rule.specs.declared.view.Role.TheVariants.{Connection};
+ghost use Rattle.hc_rule.specs.Kinds.LoadPage.{LoadsPage, with_found};
+ghost use Rattle.hc_rule.specs.Kinds.TakePage.{TakesPage, TookPage};
+ghost use Rattle.hc_rule.specs.Kinds.StorePage.{Owns, MayStore, StoresPage};
+
+use crate::grip::Grip;
+use atomic_table::{Play, Seat, Shared};
+use hc_base::{PageWord, Phys};
+use hc_rows::Layout;
+use hc_rule::{Rule, View};
+use std::marker::{Brand, PhantomData};
+
+// The page that a load is of. A step's play cannot read its arguments, so each call of `load_page_as` picks it.
+trait Loading {
+    ghost page: { ℕ };
+}
+
+impl Loading for Brand {
+    ghost page = { 0 };
+}
+
+struct Loads<N> {
+    loading: PhantomData<N>,
+}
+
+impl<N: Loading> Play<(), View> for Loads<N> {
+    ghost then = { λ step before found after. LoadsPage N.page before.0 found after };
+}
+
+fn load_page_as<N: Loading>(
+    table: &Shared<(), View, Layout, Rule>,
+    layout: &Layout,
+    seat: &mut Seat<(), View>,
+    p: Phys,
+) -> u64
+    requires table { seat.old.table_id ≡ table.now.table_id }
+    requires keyed { table.now.key ≡ layout.now }
+    requires sized { table.now.table_id.words ≡ total layout.now }
+    requires ranged { IsLayout layout.now }
+    requires bare { seat.old.me ≡ bare seat.old.me.0 }
+    requires page { HasPage layout.now p.0 }
+    requires picked { N.page ≡ p.0 }
+    ensures table { seat.new.table_id ≡ seat.old.table_id }
+    ensures told { LoadsPage p.0 seat.old.me.0 result seat.new.me }
+{
+    table.load::<Loads<N>>(seat, layout.page_at(p) as usize)
+}
+
+trait Taking {
+    ghost page: { ℕ };
+}
+
+impl Taking for Brand {
+    ghost page = { 0 };
+}
+
+struct Takes<N> {
+    taking: PhantomData<N>,
+}
+
+impl<N: Taking> Play<(), View> for Takes<N> {
+    ghost then = { λ step before found after. TakesPage N.page before.0 found after };
+}
+
+fn take_page_as<N: Taking>(
+    table: &Shared<(), View, Layout, Rule>,
+    layout: &Layout,
+    conn: u8,
+    seat: &mut Seat<(), View>,
+    p: Phys,
+    next: u32,
+) -> u64
+    requires table { seat.old.table_id ≡ table.now.table_id }
+    requires keyed { table.now.key ≡ layout.now }
+    requires sized { table.now.table_id.words ≡ total layout.now }
+    requires ranged { IsLayout layout.now }
+    requires bare { seat.old.me ≡ bare seat.old.me.0 }
+    requires connected { seat.old.me.0.role ≡ Connection conn }
+    requires page { HasPage layout.now p.0 }
+    requires picked { N.page ≡ p.0 }
+    ensures table { seat.new.table_id ≡ seat.old.table_id }
+    ensures told { TakesPage p.0 seat.old.me.0 result seat.new.me }
+{
+    let new = PageWord::Owned { seat: conn, next }.pack();
+    table.compare_exchange::<Takes<N>>(seat, layout.page_at(p) as usize, 0, new)
+}
+
+// The page of a store, and the form that is stored.
+trait Storing {
+    ghost page: { ℕ };
+
+    ghost form: { Form };
+}
+
+impl Storing for Brand {
+    ghost page = { 0 };
+
+    ghost form = { Free };
+}
+
+struct Stores<N> {
+    storing: PhantomData<N>,
+}
+
+impl<N: Storing> Play<(), View> for Stores<N> {
+    ghost then = { λ step before found after. StoresPage N.page N.form before.0 after };
+}
+
+fn store_page_as<N: Storing>(
+    table: &Shared<(), View, Layout, Rule>,
+    layout: &Layout,
+    conn: u8,
+    seat: &mut Seat<(), View>,
+    p: Phys,
+    w: PageWord,
+)
+    requires table { seat.old.table_id ≡ table.now.table_id }
+    requires keyed { table.now.key ≡ layout.now }
+    requires sized { table.now.table_id.words ≡ total layout.now }
+    requires ranged { IsLayout layout.now }
+    requires bare { seat.old.me ≡ bare seat.old.me.0 }
+    requires connected { seat.old.me.0.role ≡ Connection conn }
+    requires page { HasPage layout.now p.0 }
+    requires owns { Owns seat.old.me.0 p.0 }
+    requires form { IsPageWord w × MayStore conn w }
+    requires picked { (N.page ≡ p.0) × (N.form ≡ w) }
+    ensures table { seat.new.table_id ≡ seat.old.table_id }
+    ensures told { StoresPage p.0 w seat.old.me.0 seat.new.me }
+{
+    table.store::<Stores<N>>(seat, layout.page_at(p) as usize, w.pack());
+}
+
+impl<'a> Grip<'a> {
+    /// Loads the word of a page. The seat notes what it found.
+    pub fn load_page(&mut self, p: Phys) -> PageWord
+        requires page { HasPage self.old.layout p.0 }
+        ensures form { IsPageWord result }
+        ensures seat { self.new.seat.me ≡ bare (with_found p.0 (page_word result) self.old.seat.me.0) }
+        ensures same { (self.new.layout ≡ self.old.layout) × (self.new.conn ≡ self.old.conn) }
+    {
+        let table = self.table;
+        let word = load_page_as::<Brand>(table, &self.layout, &mut self.seat, p);
+        match PageWord::unpack(word) {
+            Some(form) => form,
+            None => unreachable!(),
+        }
+    }
+
+    /// Exchanges the word of a free page, `seen`, by one that says that this seat owns it and that `next` is the next page
+    /// that it owns, 0 at the end. Whether it was free still: else the seat notes what it found.
+    pub fn take_page(&mut self, p: Phys, seen: PageWord, next: u32) -> bool
+        requires page { HasPage self.old.layout p.0 }
+        requires seen { seen ≡ Free }
+        ensures taken { TookPage p.0 self.old.seat.me.0 result self.new.seat.me }
+        ensures same { (self.new.layout ≡ self.old.layout) × (self.new.conn ≡ self.old.conn) }
+    {
+        let table = self.table;
+        let found = take_page_as::<Brand>(table, &self.layout, self.conn, &mut self.seat, p, next);
+        found == seen.pack()
+    }
+
+    /// Stores the word of a page that the seat owns: that it owns it still, with another next page, or that it is free.
+    pub fn store_page(&mut self, p: Phys, w: PageWord)
+        requires page { HasPage self.old.layout p.0 }
+        requires owns { Owns self.old.seat.me.0 p.0 }
+        requires form { IsPageWord w × MayStore self.old.conn w }
+        ensures stored { StoresPage p.0 w self.old.seat.me.0 self.new.seat.me }
+        ensures same { (self.new.layout ≡ self.old.layout) × (self.new.conn ≡ self.old.conn) }
+    {
+        let table = self.table;
+        store_page_as::<Brand>(table, &self.layout, self.conn, &mut self.seat, p, w);
+    }
+}

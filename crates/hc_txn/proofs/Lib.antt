@@ -1,0 +1,16 @@
+pub mod KeptEntries
+pub mod KnownKeys
+pub mod Histories
+pub mod Ranks
+pub mod Parts
+pub mod OneKey
+pub mod Logging
+pub mod Earlier
+pub mod Seeing
+pub mod Marking
+pub mod RangeEntries
+pub mod LaidCells
+pub mod StandingWrites
+pub mod LaidStores
+pub mod NetWrites
+pub mod NetOf

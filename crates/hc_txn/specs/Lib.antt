@@ -1,0 +1,10 @@
+pub mod Stores
+pub mod Kept
+pub mod Laid
+pub mod Net
+pub mod Own
+pub mod Laying
+pub mod Transactions
+pub mod Reading
+pub mod Marks
+pub mod Writing
