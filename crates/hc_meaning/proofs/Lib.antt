@@ -2,6 +2,7 @@ mod EachElement
 pub mod Language
 mod Loops
 mod OneRun
+pub mod Runs
 pub mod SerialRun
 mod Table
 mod Worked

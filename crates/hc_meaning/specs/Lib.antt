@@ -7,4 +7,5 @@ pub mod Laws
 pub mod Played
 pub mod RightOutput
 pub mod Run
+pub mod Runs
 pub mod Transactions

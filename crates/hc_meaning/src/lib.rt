@@ -12,7 +12,9 @@
 #![tactic(auto)]
 
 mod answer;
+mod command;
 pub mod examples;
+pub mod languages;
 pub mod laws;
 mod limits;
 pub mod reference;
@@ -20,6 +22,7 @@ mod statement;
 mod transaction;
 
 pub use answer::{Answer, Db, Outcome, Ran};
+pub use command::Command;
 pub use limits::{MAX_INPUT, MAX_STATEMENTS};
 pub use statement::Statement;
 pub use transaction::{Script, Transaction};
