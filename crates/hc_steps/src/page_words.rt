@@ -1,7 +1,7 @@
 //! Steps on the word of a page.
 ghost use Rattle.std.specs.Prelude.{◌≡◌, ℕ};
 ghost use Rattle.hc_base.specs.Words.{IsPageWord, page_word};
-ghost use Rattle.hc_rows.specs.Places.{IsLayout, HasPage, total};
+ghost use Rattle.hc_rows.specs.Places.{IsLayout, HasPage, page_at, total};
 ghost use Rattle.hc_rule.specs.Views.{bare};
 ghost use Rattle.hc_base.specs.declared.page_word.PageWord.{PageWord as Form};
 ghost use Rattle.hc_base.specs.declared.page_word.PageWord.TheVariants.{Free};
@@ -17,13 +17,18 @@ use hc_rows::Layout;
 use hc_rule::{Rule, View};
 use std::marker::{Brand, PhantomData};
 
-// The page that a load is of. A step's play cannot read its arguments, so each call of `load_page_as` picks it.
+// The page that a load is of, and the place of its word: a load elsewhere tells nothing of the page. A step's play cannot
+// read its arguments, so each call of `load_page_as` picks them.
 trait Loading {
     ghost page: { ℕ };
+
+    ghost place: { ℕ };
 }
 
 impl Loading for Brand {
     ghost page = { 0 };
+
+    ghost place = { 0 };
 }
 
 struct Loads<N> {
@@ -31,7 +36,7 @@ struct Loads<N> {
 }
 
 impl<N: Loading> Play<(), View> for Loads<N> {
-    ghost then = { λ step before found after. LoadsPage N.page before.0 found after };
+    ghost then = { λ step before found after. (step.word ≡ N.place) × LoadsPage N.page before.0 found after };
 }
 
 fn load_page_as<N: Loading>(
@@ -46,7 +51,7 @@ fn load_page_as<N: Loading>(
     requires ranged { IsLayout layout.now }
     requires bare { seat.old.me ≡ bare seat.old.me.0 }
     requires page { HasPage layout.now p.0 }
-    requires picked { N.page ≡ p.0 }
+    requires picked { (N.page ≡ p.0) × (N.place ≡ page_at layout.now p.0) }
     ensures table { seat.new.table_id ≡ seat.old.table_id }
     ensures told { LoadsPage p.0 seat.old.me.0 result seat.new.me }
 {

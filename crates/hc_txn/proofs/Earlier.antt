@@ -81,7 +81,7 @@ nested_from name bound (mark ∷ marks) h = at (has_same_name (string_bytes mark
     at false more = more
 
 module _ {T E : Type 0} (r : Result T E) (w : Write) (own more : List Write) (start : Option ℕ) (marks : List MarkAt) (h : IsNestedIn start (length own) marks) where
-  -- a write that is put, or is not for want of memory, leaves marks and statement
+  -- a write that is put, or is not since memory ran out, leaves marks and statement
   pub nested_after : OnOk r (more ≡ w ∷ own) → OnErr r (more ≡ own) → IsNestedIn start (length more) marks
   nested_after ok err = at r ok err
     where
