@@ -1,2 +1,3 @@
 pub mod Fifth
 pub mod HandPages
+mod Holding

@@ -6,3 +6,4 @@ mod hand_pages;
 mod leaves;
 mod pool;
 mod room;
+mod workers;

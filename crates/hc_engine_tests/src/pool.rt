@@ -1,7 +1,7 @@
 //! Pages of a region are claimed and given back.
 ghost use Rattle.std.specs.Prelude.{◌≡◌};
 
-use hc_base::{Cid, Full, Page, Phys};
+use hc_base::{Cid, Full, Page, PageWord, Phys};
 use hc_pool::{claim, give_back};
 use hc_steps::Grip;
 
@@ -30,9 +30,28 @@ fn write_and_read(grip: &mut Grip<'_>, word: u64) -> Result<(u64, u64), Full>
     Ok((grip.load_row(p, 255), row.words[255]))
 }
 
+// Claims a page, writes its row, reads it again and gives the page back. A page that was given back is claimed next.
+fn rewrite(grip: &mut Grip<'_>, page: &Page, out: &mut Page) -> Result<Phys, Full> {
+    let p = claim(grip, Cid(0))?;
+    grip.write_page(p, page);
+    grip.read_page(p, out);
+    give_back(grip, p);
+    Ok(p)
+}
+
+// Claims a page, names another next one, and loads the page's word.
+fn thread_page(grip: &mut Grip<'_>, seat: u8, next: u32) -> Result<PageWord, Full>
+    requires seat { seat ≡ grip.old.conn }
+{
+    let p = claim(grip, Cid(0))?;
+    grip.store_page(p, PageWord::Owned { seat, next });
+    Ok(grip.load_page(p))
+}
+
 #[cfg(test)]
 mod tests {
     use super::*;
+    use hc_base::Logical;
     use hc_rows::Layout;
     use hc_steps::Region;
     use std::test::Fail;
@@ -113,6 +132,77 @@ mod tests {
         assert_eq!(rt; write_and_read(&mut grip, 5), Ok((5, 5)));
         assert_eq!(rt; grip.load_row(Phys(3), 255), u64::MAX);
         assert_eq!(rt; grip.load_row(Phys(5), 255), 0);
+        Ok(())
+    }
+
+    // The words before the first that is 0 up to the end, from the table of the layout: a leaf of number 1 with no entry and
+    // 4 used words, and an inner page of number 2 and level 1, whose one entry is at word 5 and names number 1.
+    #[test]
+    fn the_first_pages_are_a_leaf_and_an_inner_page(rt: HostRuntime) -> Result<(), Fail> {
+        let layout = Layout {
+            pages: 3,
+            numbers: 2,
+            transactions: 1,
+            seats: 1,
+        };
+        let (region, mut dealer) = Region::make(rt.alloc(), layout)?;
+        let mut grip = region.deal(&mut dealer);
+        let leaf: [u64; 3] = [
+            0x0100_0000_0004_0001,
+            0x0000_0001_0000_0000,
+            0x0004_0000_0000_0000,
+        ];
+        let inner: [u64; 6] = [
+            0x0201_0001_0006_0001,
+            0x0000_0002_0000_0000,
+            0x0006_0000_0000_0000,
+            0,
+            0x0005_0000_0000_0000,
+            0x0000_0001_0000_0000,
+        ];
+        let mut first = Page { words: [7; 256] };
+        grip.read_page(Phys(1), &mut first);
+        let mut second = Page { words: [7; 256] };
+        grip.read_page(Phys(2), &mut second);
+        let mut wanted = Page { words: [0; 256] };
+        wanted.words[..3].copy_from_slice(&leaf);
+        assert_eq!(rt; first.words, wanted.words);
+        wanted.words[..6].copy_from_slice(&inner);
+        assert_eq!(rt; second.words, wanted.words);
+        assert_eq!(rt; grip.load_page(Phys(1)), PageWord::Mapped(Logical(1)));
+        assert_eq!(rt; grip.load_page(Phys(2)), PageWord::Mapped(Logical(2)));
+        assert_eq!(rt; grip.load_page(Phys(3)), PageWord::Free);
+        Ok(())
+    }
+
+    #[test]
+    fn whole_rows_are_written(rt: HostRuntime) -> Result<(), Fail> {
+        let layout = Layout {
+            pages: 4,
+            numbers: 2,
+            transactions: 1,
+            seats: 2,
+        };
+        let (region, mut dealer) = Region::make(rt.alloc(), layout)?;
+        let mut one = region.deal(&mut dealer);
+        let mut two = region.deal(&mut dealer);
+        let note = one.tell();
+        two.learn(note);
+        let mut page = Page { words: [3; 256] };
+        let mut read = Page { words: [0; 256] };
+        assert_eq!(rt; rewrite(&mut one, &page, &mut read), Ok(Phys(3)));
+        assert_eq!(rt; read.words, page.words);
+        page.words[0] = u64::MAX;
+        page.words[100] = 0;
+        page.words[255] = 9;
+        assert_eq!(rt; rewrite(&mut one, &page, &mut read), Ok(Phys(3)));
+        assert_eq!(rt; read.words, page.words);
+        two.read_page(Phys(3), &mut read);
+        assert_eq!(rt; read.words, page.words);
+        assert_eq!(rt;
+            thread_page(&mut two, 1, 3),
+            Ok(PageWord::Owned { seat: 1, next: 3 })
+        );
         Ok(())
     }
 }

@@ -9,7 +9,10 @@ use Rattle.hc_rule.specs.declared.view.View.{View}
 use Rattle.hc_rule.specs.declared.view.Found.{Found}
 use Rattle.hc_rule.specs.Kinds.LoadPage.{with_found}
 use Rattle.hc_rule.specs.Kinds.StorePage.{Owns}
-use Rattle.hc_rule.specs.Kinds.TakePage.{row_of, with_page, TookPage}
+use Rattle.hc_rows.specs.declared.layout.Layout.{Layout}
+use Rattle.hc_rows.specs.Places.{page_at}
+use Rattle.hc_rule.specs.Hands.{row_of}
+use Rattle.hc_rule.specs.Kinds.TakePage.{with_page, IsElsewhere, TookPage}
 use Rattle.hc_pool.specs.Claiming.{with_all_found, FindsTaken, Claims, Tried}
 
 among_front : (x : Found) (xs ys : List Found) → Among x xs → Among x (xs ++ ys)
@@ -26,11 +29,11 @@ found_after v w u more after one other =
     other ∙ (ap (λ x. with_all_found after x) one ∙ ap (λ fs. record v { found = fs }) (sym (append_assoc after more v.found)))
 
 -- nothing, and then a page
-pub finds_none : (v : View) (pages : ℕ → Type 0) → ((p : ℕ) → pages p → ⊥) → FindsTaken pages v v
-finds_none v pages none = record { more = []; is = refl; each = λ p is. absurd (none p is) }
+pub finds_none : (y : Layout) (v : View) (pages : ℕ → Type 0) → ((p : ℕ) → pages p → ⊥) → FindsTaken y pages v v
+finds_none y v pages none = record { more = []; is = refl; each = λ p is. absurd (none p is) }
 
-pub finds_both : (v w u : View) (one other pages : ℕ → Type 0) → ((p : ℕ) → pages p → one p ⊎ other p) → FindsTaken one v w → FindsTaken other w u → FindsTaken pages v u
-finds_both v w u one other pages split first second = record {
+pub finds_both : (y : Layout) (v w u : View) (one other pages : ℕ → Type 0) → ((p : ℕ) → pages p → one p ⊎ other p) → FindsTaken y one v w → FindsTaken y other w u → FindsTaken y pages v u
+finds_both y v w u one other pages split first second = record {
   more = second.more ++ first.more;
   is = found_after v w u first.more second.more first.is second.is;
   each = λ p is.
@@ -40,9 +43,9 @@ finds_both v w u one other pages split first second = record {
       (split p is);
 }
 
-pub claims_after : (p : ℕ) (v w u : View) (pages : ℕ → Type 0) → FindsTaken pages v w → Claims p w u → Claims p v u
-claims_after p v w u pages first claims =
-    (claims.0, claims.1 ++ first.more, claims.2 ∙ ap (λ x. with_page p claims.0 x) (found_after v w (with_all_found claims.1 w) first.more claims.1 first.is refl))
+pub claims_after : (y : Layout) (p : ℕ) (v w u : View) (pages : ℕ → Type 0) → FindsTaken y pages v w → Claims p w u → Claims p v u
+claims_after y p v w u pages first claims =
+    (subst (λ x. IsElsewhere p x) first.is claims.0, claims.1, claims.2, claims.3 ++ first.more, claims.4 ∙ ap (λ x. with_page p 0 claims.1 x) (found_after v w (with_all_found claims.3 w) first.more claims.3 first.is refl))
 
 -- a form whose word is 0 says that the page is free
 pub free_form : (form : PageWord) → page_word form ≡ 0 → form ≡ word.Free
@@ -53,29 +56,29 @@ free_form (word.Pending seat next) is = absurd (omega (arith, is))
 free_form (word.Limbo stamp) is = absurd (omega (arith, is))
 
 -- a page was loaded, and then it was tried to take it
-pub tried_take : (p n : ℕ) (v : View) (me : Me Unit View) (b : Bool) (after : Me Unit View) → me ≡ (with_found p n v, []) → TookPage p me.0 b after → Tried p v b after.0
-tried_take p n v me true after loaded took =
-    let seen : me.0 ≡ with_found p n v = ap (λ (m : Me Unit View). m.0) loaded in
-    (took.0, record { page = record { 0 = p }; word = n } ∷ [], ap (λ (m : Me Unit View). m.0) took.1 ∙ ap (λ x. with_page p took.0 x) seen)
-tried_take p n v me false after loaded took =
-    let seen : me.0 ≡ with_found p n v = ap (λ (m : Me Unit View). m.0) loaded in
+pub tried_take : (y : Layout) (p n : ℕ) (v : View) (me : Me Unit View) (b : Bool) (after : Me Unit View) → me ≡ (with_found (page_at y p) n v, []) → TookPage (page_at y p) p 0 me.0 b after → Tried y p v b after.0
+tried_take y p n v me true after loaded took =
+    let seen : me.0 ≡ with_found (page_at y p) n v = ap (λ (m : Me Unit View). m.0) loaded in
+    (subst (λ x. IsElsewhere p x) seen took.0, took.1, took.2, record { place = page_at y p; word = n } ∷ [], ap (λ (m : Me Unit View). m.0) took.3 ∙ ap (λ x. with_page p 0 took.1 x) seen)
+tried_take y p n v me false after loaded took =
+    let seen : me.0 ≡ with_found (page_at y p) n v = ap (λ (m : Me Unit View). m.0) loaded in
     record {
-      more = record { page = record { 0 = p }; word = took.0 } ∷ record { page = record { 0 = p }; word = n } ∷ [];
-      is = ap (λ (m : Me Unit View). m.0) took.2 ∙ ap (λ x. with_found p took.0 x) seen;
-      each = λ q is. (record { page = record { 0 = p }; word = took.0 }, inl refl, sym is, took.1);
+      more = record { place = page_at y p; word = took.0 } ∷ record { place = page_at y p; word = n } ∷ [];
+      is = ap (λ (m : Me Unit View). m.0) took.2 ∙ ap (λ x. with_found (page_at y p) took.0 x) seen;
+      each = λ q is. (record { place = page_at y p; word = took.0 }, inl refl, ap (page_at y) (sym is), took.1);
     }
 
 -- a page was loaded and found taken
-pub tried_load : (p n : ℕ) (v : View) (me : Me Unit View) → me ≡ (with_found p n v, []) → n ≢ 0 → Tried p v false me.0
-tried_load p n v me loaded taken = record {
-  more = record { page = record { 0 = p }; word = n } ∷ [];
+pub tried_load : (y : Layout) (p n : ℕ) (v : View) (me : Me Unit View) → me ≡ (with_found (page_at y p) n v, []) → n ≢ 0 → Tried y p v false me.0
+tried_load y p n v me loaded taken = record {
+  more = record { place = page_at y p; word = n } ∷ [];
   is = ap (λ (m : Me Unit View). m.0) loaded;
-  each = λ q is. (record { page = record { 0 = p }; word = n }, inl refl, sym is, taken);
+  each = λ q is. (record { place = page_at y p; word = n }, inl refl, ap (page_at y) (sym is), taken);
 }
 
 -- what was claimed is owned, and what is owned stays so while others are found taken
 pub claims_owns : (p : ℕ) (v w : View) → Claims p v w → Owns w p
-claims_owns p v w claims = subst (λ x. Owns x p) (sym claims.2) (row_of p claims.0, inl refl, refl)
+claims_owns p v w claims = subst (λ x. Owns x p) (sym claims.4) (row_of p 0 claims.1, inl refl, refl)
 
-pub finds_owns : (p : ℕ) (v w : View) (pages : ℕ → Type 0) → FindsTaken pages v w → Owns v p → Owns w p
-finds_owns p v w pages finds owns = subst (λ x. Owns x p) (sym finds.is) owns
+pub finds_owns : (y : Layout) (p : ℕ) (v w : View) (pages : ℕ → Type 0) → FindsTaken y pages v w → Owns v p → Owns w p
+finds_owns y p v w pages finds owns = subst (λ x. Owns x p) (sym finds.is) owns

@@ -2,6 +2,7 @@ pub mod Along
 pub mod Kept
 pub mod Laying
 pub mod PageStates
+pub mod Rewriting
 pub mod Roles
 pub mod RowStates
 pub mod Start

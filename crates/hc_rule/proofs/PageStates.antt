@@ -1,4 +1,4 @@
--- How page states go on: a page is taken, rewritten or given back.
+-- How page states go on: a page is taken or given back.
 use Rattle.std.proofs.Common.{◌≡◌, ◌≢◌, ◌∙◌, refl, sym, ap, subst, inl, inr, ⊎_elim, ℕ, ◌^◌, ◌<◌, List, [], ◌∷◌, cond, eq-eqb, ne_eqb, arith}
 use Rattle.std.proofs.lemmas.Bool.{cases_eq}
 use Rattle.hc_base.specs.Lookup.{Among, but}
@@ -11,8 +11,8 @@ use Rattle.hc_rule.specs.declared.view.Role.{Role}
 use Rattle.hc_rule.specs.declared.view.Role.TheVariants.{Connection}
 use Rattle.hc_rule.specs.declared.view.Row.{Row}
 use Rattle.hc_rule.specs.declared.view.Claim.{Claim}
-use Rattle.hc_rule.specs.Kinds.StorePage.{without_page}
-use Rattle.hc_rule.specs.Kinds.TakePage.{row_of, claim_of}
+use Rattle.hc_rule.specs.Hands.{row_of, without_page}
+use Rattle.hc_rule.specs.Kinds.TakePage.{claim_of}
 use Rattle.hc_rule.specs.States.{State, Free, Owned, Ready, Named, Replaced, Pending, Limbo, form_of, IsKept, IsOwnedBy, HasClaimed, IsStated}
 use Rattle.hc_rule.specs.Reach.{IsReached}
 
@@ -26,8 +26,12 @@ free_is (Replaced seat number) is = absurd (omega (arith, is))
 free_is (Pending seat next) is = absurd (omega (arith, is))
 free_is (Limbo stamp) is = absurd (omega (arith, is))
 
+-- an owned page is its owner's
+pub is_owned : (s : State) (conn next : ℕ) → s ≡ Owned conn next → IsOwnedBy conn s
+is_owned s conn next is = subst (λ x. IsOwnedBy conn x) (sym is) refl
+
 -- a free page is in no hand, is not kept and has no name
-free_not_owned : (conn : ℕ) (s : State) → s ≡ Free → IsOwnedBy conn s → ⊥
+pub free_not_owned : (conn : ℕ) (s : State) → s ≡ Free → IsOwnedBy conn s → ⊥
 free_not_owned conn s free held = subst (λ x. IsOwnedBy conn x) free held
 
 not_kept : (s : State) → s ≡ Free → IsKept s → ⊥
@@ -43,7 +47,7 @@ owned_not_kept conn (Replaced seat number) held kept = held
 owned_not_kept conn (Pending seat next) held kept = held
 owned_not_kept conn (Limbo stamp) held kept = held
 
-owned_not_named : (conn l : ℕ) (s : State) → IsOwnedBy conn s → s ≡ Named l → ⊥
+pub owned_not_named : (conn l : ℕ) (s : State) → IsOwnedBy conn s → s ≡ Named l → ⊥
 owned_not_named conn l s held named = subst (λ x. IsOwnedBy conn x) named held
 
 free_not_named : (l : ℕ) (s : State) → s ≡ Free → s ≡ Named l → ⊥
@@ -67,19 +71,19 @@ module _ (state : ℕ → State) (page map : ℕ → ℕ) (role : ℕ → Role) 
   after = but state p (Owned conn next)
 
   abbrev hands : ℕ → List Row
-  hands = but hand id (row_of p words ∷ hand id)
+  hands = but hand id (row_of p next words ∷ hand id)
 
   same_state : (q : ℕ) → p ≢ q → after q ≡ state q
   same_state q differ = but-other state p q (Owned conn next) differ
 
   -- what was in a hand is there still, and what was claimed
   still : (i : ℕ) (x : Row) → Among x (hand i) → Among x (hands i)
-  still i x there = each_but hand id (row_of p words ∷ hand id) (λ j xs. Among x (hand j) → Among x xs) (λ was. inr was) (λ j differ was. was) i there
+  still i x there = each_but hand id (row_of p next words ∷ hand id) (λ j xs. Among x (hand j) → Among x xs) (λ was. inr was) (λ j differ was. was) i there
 
   still_claimed : (i q : ℕ) → HasClaimed q (claims i) → HasClaimed q (but claims id (claim_of p ∷ claims id) i)
   still_claimed i q has = each_but claims id (claim_of p ∷ claims id) (λ j xs. HasClaimed q (claims j) → HasClaimed q xs) (λ was. (was.0, inr was.1, was.2)) (λ j differ was. was) i has
 
-  pub stated_take : IsStated (but state p (Owned conn next)) (but page p (page_word (word.Owned conn next))) map role (but hand id (row_of p words ∷ hand id)) (but claims id (claim_of p ∷ claims id))
+  pub stated_take : IsStated (but state p (Owned conn next)) (but page p (page_word (word.Owned conn next))) map role (but hand id (row_of p next words ∷ hand id)) (but claims id (claim_of p ∷ claims id))
   stated_take = record {
     form = each_but state p (Owned conn next) (λ q s. IsPageWord (form_of s)) (small, short) (λ q differ. h.form q);
     word = λ q.
@@ -95,15 +99,15 @@ module _ (state : ℕ → State) (page map : ℕ → ℕ) (role : ℕ → Role) 
         (λ (same : p ≡ q). absurd (free_not_named l (state q) (subst (λ n. state n ≡ Free) same free) (h.names q l is)))
         (λ differ. same_state q differ ∙ h.names q l is)
         (cases_eq p q);
-    held = λ i x. each_but hand id (row_of p words ∷ hand id) (λ j xs. Among x xs → (c : ℕ) × (role j ≡ Connection c) × IsOwnedBy c (after x.page.0))
+    held = λ i x. each_but hand id (row_of p next words ∷ hand id) (λ j xs. Among x xs → (c : ℕ) × (role j ≡ Connection c) × (after x.page.0 ≡ Owned c x.next))
         (λ there. ⊎_elim
-        (λ (new : x ≡ row_of p words). (conn, mine, subst (λ (z : Row). IsOwnedBy conn (after z.page.0)) (sym new) (subst (λ s. IsOwnedBy conn s) (sym (but-same state p (Owned conn next))) refl)))
+        (λ (new : x ≡ row_of p next words). (conn, mine, subst (λ (z : Row). after z.page.0 ≡ Owned conn z.next) (sym new) (but-same state p (Owned conn next))))
         (λ old. stays id x old)
         there)
         (λ j differ there. stays j x there)
         i;
     holder = λ q c. each_but state p (Owned conn next) (λ n s. IsOwnedBy c s → (i : ℕ) × (x : Row) × (role i ≡ Connection c) × Among x (hands i) × (x.page.0 ≡ n))
-        (λ is. (id, row_of p words, subst (λ k. role id ≡ Connection k) is mine, subst (λ xs. Among (row_of p words) xs) (sym (but-same hand id (row_of p words ∷ hand id))) (inl refl), refl))
+        (λ is. (id, row_of p next words, subst (λ k. role id ≡ Connection k) is mine, subst (λ xs. Among (row_of p next words) xs) (sym (but-same hand id (row_of p next words ∷ hand id))) (inl refl), refl))
         (λ n differ is. let was = h.holder n c is in (was.0, was.1, was.2, still was.0 was.1 was.3, was.4))
         q;
     claimed = λ q. each_but state p (Owned conn next) (λ n s. 2 < n → s ≢ Free → (i : ℕ) × HasClaimed n (but claims id (claim_of p ∷ claims id) i))
@@ -112,19 +116,19 @@ module _ (state : ℕ → State) (page map : ℕ → ℕ) (role : ℕ → Role) 
         q;
   }
     where
-      stays : (j : ℕ) (x : Row) → Among x (hand j) → (c : ℕ) × (role j ≡ Connection c) × IsOwnedBy c (after x.page.0)
+      stays : (j : ℕ) (x : Row) → Among x (hand j) → (c : ℕ) × (role j ≡ Connection c) × (after x.page.0 ≡ Owned c x.next)
       stays j x there =
           let was = h.held j x there in (
             was.0,
             was.1,
             ⊎_elim
-                (λ (same : p ≡ x.page.0). absurd (free_not_owned was.0 (state x.page.0) (subst (λ n. state n ≡ Free) same free) was.2))
-                (λ differ. subst (λ s. IsOwnedBy was.0 s) (sym (same_state x.page.0 differ)) was.2)
+                (λ (same : p ≡ x.page.0). absurd (free_not_owned was.0 (state x.page.0) (subst (λ n. state n ≡ Free) same free) (is_owned (state x.page.0) was.0 x.next was.2)))
+                (λ differ. same_state x.page.0 differ ∙ was.2)
                 (cases_eq p x.page.0),
           )
 
   -- and what may be reached is as it was
-  pub reached_take : (rows : ℕ → List ℕ) (loaded : ℕ → List Row) → IsReached state rows loaded hand → rows p ≡ words → IsReached (but state p (Owned conn next)) rows loaded (but hand id (row_of p words ∷ hand id))
+  pub reached_take : (rows : ℕ → List ℕ) (loaded : ℕ → List Row) → IsReached state rows loaded hand → rows p ≡ words → IsReached (but state p (Owned conn next)) rows loaded (but hand id (row_of p next words ∷ hand id))
   reached_take rows loaded r as_found = record {
     stays = λ i x there.
         let was = r.stays i x there in (
@@ -134,8 +138,8 @@ module _ (state : ℕ → State) (page map : ℕ → ℕ) (role : ℕ → Role) 
               (cases_eq p x.page.0),
           was.1,
         );
-    written = λ i x. each_but hand id (row_of p words ∷ hand id) (λ j xs. Among x xs → rows x.page.0 ≡ x.words)
-        (λ there. ⊎_elim (λ (new : x ≡ row_of p words). subst (λ (z : Row). rows z.page.0 ≡ z.words) (sym new) as_found) (λ old. r.written id x old) there)
+    written = λ i x. each_but hand id (row_of p next words ∷ hand id) (λ j xs. Among x xs → rows x.page.0 ≡ x.words)
+        (λ there. ⊎_elim (λ (new : x ≡ row_of p next words). subst (λ (z : Row). rows z.page.0 ≡ z.words) (sym new) as_found) (λ old. r.written id x old) there)
         (λ j differ there. r.written j x there)
         i;
     content = each_but state p (Owned conn next) (λ q s. IsKept s → HasContent (rows q)) (λ none. absurd none) (λ q differ kept. r.content q kept);
@@ -154,7 +158,7 @@ among_left p x (z ∷ zs) there =
     (cases_eq z.page.0 p)
 
 -- another page is left
-left_among : (p : ℕ) (x : Row) (xs : List Row) → Among x xs → p ≢ x.page.0 → Among x (without_page p xs)
+pub left_among : (p : ℕ) (x : Row) (xs : List Row) → Among x xs → p ≢ x.page.0 → Among x (without_page p xs)
 left_among p x [] there differ = absurd there
 left_among p x (z ∷ zs) there differ =
     ⊎_elim
@@ -164,46 +168,6 @@ left_among p x (z ∷ zs) there differ =
     (⊎_elim (λ (is : x ≡ z). inl is) (λ later. inr (left_among p x zs later differ)) there))
     (cases_eq z.page.0 p)
 
--- a seat names another next page
-module _ (state : ℕ → State) (page map : ℕ → ℕ) (role : ℕ → Role) (hand : ℕ → List Row) (claims : ℕ → List Claim)
-    (h : IsStated state page map role hand claims) (p conn next : ℕ) (owned : IsOwnedBy conn (state p)) (small : conn < 2 ^ 8) (short : next < 2 ^ 32) where
-  pub stated_thread : IsStated (but state p (Owned conn next)) (but page p (page_word (word.Owned conn next))) map role hand claims
-  stated_thread = record {
-    form = each_but state p (Owned conn next) (λ q s. IsPageWord (form_of s)) (small, short) (λ q differ. h.form q);
-    word = λ q.
-        ⊎_elim
-        (λ (same : p ≡ q). subst (λ n. but page p (page_word (word.Owned conn next)) n ≡ page_word (form_of (but state p (Owned conn next) n))) same
-        (but-same page p (page_word (word.Owned conn next)) ∙ sym (ap (λ s. page_word (form_of s)) (but-same state p (Owned conn next)))))
-        (λ differ. but-other page p q (page_word (word.Owned conn next)) differ ∙ (h.word q ∙ sym (ap (λ s. page_word (form_of s)) (but-other state p q (Owned conn next) differ))))
-        (cases_eq p q);
-    named = λ q l. each_but state p (Owned conn next) (λ n s. s ≡ Named l → map l ≡ map_word (mapped.Page (record { 0 = n })))
-        (λ is. absurd (owned_not_named conn l (Owned conn next) refl is)) (λ n differ is. h.named n l is) q;
-    names = λ q l is.
-        ⊎_elim
-        (λ (same : p ≡ q). absurd (owned_not_named conn l (state q) (subst (λ n. IsOwnedBy conn (state n)) same owned) (h.names q l is)))
-        (λ differ. but-other state p q (Owned conn next) differ ∙ h.names q l is)
-        (cases_eq p q);
-    held = λ i x there.
-        let was = h.held i x there in (
-          was.0,
-          was.1,
-          each_but state p (Owned conn next) (λ n s. IsOwnedBy was.0 (state n) → IsOwnedBy was.0 s) (λ mine. one_owner conn was.0 (state p) owned mine) (λ n differ mine. mine) x.page.0 was.2,
-        );
-    holder = λ q c. each_but state p (Owned conn next) (λ n s. IsOwnedBy c s → (i : ℕ) × (x : Row) × (role i ≡ Connection c) × Among x (hand i) × (x.page.0 ≡ n))
-        (λ is. h.holder p c (subst (λ k. IsOwnedBy k (state p)) is owned)) (λ n differ is. h.holder n c is) q;
-    claimed = λ q. each_but state p (Owned conn next) (λ n s. 2 < n → s ≢ Free → (i : ℕ) × HasClaimed n (claims i))
-        (λ far taken. h.claimed p far (λ free. free_not_owned conn (state p) free owned)) (λ n differ far taken. h.claimed n far taken) q;
-  }
-
-  pub reached_thread : (rows : ℕ → List ℕ) (loaded : ℕ → List Row) → IsReached state rows loaded hand → IsReached (but state p (Owned conn next)) rows loaded hand
-  reached_thread rows loaded r = record {
-    stays = λ i x there.
-        let was = r.stays i x there in
-        (each_but state p (Owned conn next) (λ n s. IsKept (state n) → IsKept s) (λ kept. absurd (owned_not_kept conn (state p) owned kept)) (λ n differ kept. kept) x.page.0 was.0, was.1);
-    written = r.written;
-    content = each_but state p (Owned conn next) (λ q s. IsKept s → HasContent (rows q)) (λ none. absurd none) (λ q differ kept. r.content q kept);
-  }
-
 -- a seat gives a page back
 module _ (state : ℕ → State) (page map : ℕ → ℕ) (role : ℕ → Role) (hand : ℕ → List Row) (claims : ℕ → List Claim)
     (h : IsStated state page map role hand claims) (id p conn : ℕ) (owned : IsOwnedBy conn (state p)) (mine : role id ≡ Connection conn)
@@ -212,11 +176,11 @@ module _ (state : ℕ → State) (page map : ℕ → ℕ) (role : ℕ → Role) 
   pub elsewhere : (i : ℕ) (x : Row) → id ≢ i → Among x (hand i) → p ≢ x.page.0
   elsewhere i x differ there same =
       let was = h.held i x there in
-      let who : conn ≡ was.0 = one_owner conn was.0 (state x.page.0) (subst (λ n. IsOwnedBy conn (state n)) same owned) was.2 in
+      let who : conn ≡ was.0 = one_owner conn was.0 (state x.page.0) (subst (λ n. IsOwnedBy conn (state n)) same owned) (is_owned (state x.page.0) was.0 x.next was.2) in
       differ (apart id i was.0 (subst (λ c. role id ≡ Connection c) who mine) was.1)
 
-  stays_owned : (c : ℕ) (x : Row) → p ≢ x.page.0 → IsOwnedBy c (state x.page.0) → IsOwnedBy c (but state p Free x.page.0)
-  stays_owned c x differ is = subst (λ s. IsOwnedBy c s) (sym (but-other state p x.page.0 Free differ)) is
+  stays_owned : (c : ℕ) (x : Row) → p ≢ x.page.0 → state x.page.0 ≡ Owned c x.next → but state p Free x.page.0 ≡ Owned c x.next
+  stays_owned c x differ is = but-other state p x.page.0 Free differ ∙ is
 
   pub stated_free : IsStated (but state p Free) (but page p (page_word word.Free)) map role (but hand id (without_page p (hand id))) claims
   stated_free = record {
@@ -236,7 +200,7 @@ module _ (state : ℕ → State) (page map : ℕ → ℕ) (role : ℕ → Role) 
         (cases_eq p q);
     held = λ i x.
         ⊎_elim
-        (λ (same : id ≡ i). subst (λ j. Among x (but hand id (without_page p (hand id)) j) → (c : ℕ) × (role j ≡ Connection c) × IsOwnedBy c (but state p Free x.page.0)) same
+        (λ (same : id ≡ i). subst (λ j. Among x (but hand id (without_page p (hand id)) j) → (c : ℕ) × (role j ≡ Connection c) × (but state p Free x.page.0 ≡ Owned c x.next)) same
         (λ there.
         let left = among_left p x (hand id) (subst (Among x) (but-same hand id (without_page p (hand id))) there) in
         let was = h.held id x left.0 in (was.0, was.1, stays_owned was.0 x left.1 was.2)))

@@ -15,7 +15,7 @@ use Rattle.hc_rule.specs.States.{State, Free, Owned, Ready, Named, Replaced, Pen
 use Rattle.hc_rule.specs.Reach.{IsReached}
 use Rattle.hc_rule.specs.Seats.{IsDealt}
 use Rattle.hc_rule.specs.Rule.{Holds}
-use Rattle.hc_rule.specs.Start.{mapped, names, IsFirst}
+use Rattle.hc_rule.specs.Start.{mapped, names, first_leaf, first_inner, IsFirst}
 use Rattle.hc_rule.proofs.Along.{stated_along, reached_along}
 use Rattle.hc_rule.proofs.Roles.{not_both, not_nobody, no_dealer}
 
@@ -174,5 +174,5 @@ start_holds y words first =
       dealt = first_dealt y.seats;
       state = but (but (λ p. Free) 1 (Named 1)) 2 (Named 2);
       stated = stated_along (but (but (λ p. Free) 1 (Named 1)) 2 (Named 2)) _ _ _ _ _ _ _ _ _ _ first.pages first.maps refl pages claims first_stated;
-      reached = reached_along (but (but (λ p. Free) 1 (Named 1)) 2 (Named 2)) _ _ _ _ _ _ refl loads pages (first_reached (rows y words) first.leaf first.inner);
+      reached = reached_along (but (but (λ p. Free) 1 (Named 1)) 2 (Named 2)) _ _ _ _ _ _ refl loads pages (first_reached (rows y words) (first_leaf, first.leaf) (first_inner, first.inner));
     }

@@ -82,3 +82,14 @@ known_split f views id v left right at =
 
 pub nobody_past : {A : Type 0} (f : View → A) (views : List View) → known f views (length views) ≡ f nobody
 nobody_past f views = known_past f views (length views) (omega arith)
+
+-- with one seat more that knows nothing of a field
+pub known_more : {A : Type 0} (f : View → A) (views : List View) (w : View) → f w ≡ f nobody → known f (views ++ (w ∷ [])) ≡ known f views
+known_more {A} f views w none = known_new f views w ∙ (λ t j. each j t)
+  where
+    each : (j : ℕ) → but (known f views) (length views) (f w) j ≡ known f views j
+    each j =
+        elim (cases_eq (length views) j) [
+          | inl here ↦ subst (λ k. but (known f views) (length views) (f w) k ≡ known f views k) here (but-same (known f views) (length views) (f w) ∙ (none ∙ sym (nobody_past f views)))
+          | inr differ ↦ but-other (known f views) (length views) j (f w) differ
+        ]

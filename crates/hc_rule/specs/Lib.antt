@@ -1,3 +1,4 @@
+pub mod Hands
 pub mod Kinds
 pub mod Reach
 pub mod Rule

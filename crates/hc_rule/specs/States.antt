@@ -60,13 +60,13 @@ IsOwnedBy conn (Limbo stamp) = ⊥
 abbrev pub HasClaimed : ℕ → List Claim → Type 0
 HasClaimed p claims = (claim : Claim) × Among claim claims × (claim.claimed ≡ claimed.Page (record { 0 = p }))
 
--- `page` and `map` are the words, `role`, `hand` (the pages that are owned) and `claims` what the seats know. The first two pages are there from the
--- start; each other one that is not free was claimed.
+-- `page` and `map` are the words, `role`, `hand` (the pages that are owned) and `claims` what the seats know. The first
+-- two pages are there from the start; each other one that is not free has been claimed at some time.
 pub record IsStated (state : ℕ → State) (page map : ℕ → ℕ) (role : ℕ → Role) (hand : ℕ → List Row) (claims : ℕ → List Claim) : Type 0 where
   pub form : (p : ℕ) → IsPageWord (form_of (state p))
   pub word : (p : ℕ) → page p ≡ page_word (form_of (state p))
   pub named : (p l : ℕ) → state p ≡ Named l → map l ≡ map_word (mapped.Page (record { 0 = p }))
   pub names : (p l : ℕ) → map l ≡ map_word (mapped.Page (record { 0 = p })) → state p ≡ Named l
-  pub held : (i : ℕ) (row : Row) → Among row (hand i) → (conn : ℕ) × (role i ≡ Connection conn) × IsOwnedBy conn (state row.page.0)
+  pub held : (i : ℕ) (row : Row) → Among row (hand i) → (conn : ℕ) × (role i ≡ Connection conn) × (state row.page.0 ≡ Owned conn row.next)
   pub holder : (p conn : ℕ) → IsOwnedBy conn (state p) → (i : ℕ) × (row : Row) × (role i ≡ Connection conn) × Among row (hand i) × (row.page.0 ≡ p)
   pub claimed : (p : ℕ) → 2 < p → state p ≢ Free → (i : ℕ) × HasClaimed p (claims i)

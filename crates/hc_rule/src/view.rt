@@ -21,17 +21,18 @@ pub struct Told {
     pub account: Account,
 }
 
-/// A page and its row.
+/// A page, the next page that its word names where it is owned, 0 at the end, and its row.
 #[derive(Drop)]
 pub struct Row {
     pub page: Phys,
+    pub next: u32,
     pub words: LinkedList<u64>,
 }
 
-/// The word of a page, as a step found it.
+/// A word of the table, by its place, as a step found it.
 #[derive(Drop)]
 pub struct Found {
-    pub page: Phys,
+    pub place: u64,
     pub word: u64,
 }
 
@@ -71,7 +72,7 @@ pub struct View {
     pub pending: LinkedList<Phys>,
     /// The logical numbers in its hand.
     pub numbers: LinkedList<Logical>,
-    /// The words of pages that its steps found.
+    /// The words of pages, as its steps found them.
     pub found: LinkedList<Found>,
     /// What it claimed.
     pub claimed: LinkedList<Claim>,

@@ -1,8 +1,8 @@
 //! The words of a new table: pages 1 and 2 have the logical numbers 1 and 2, all else is free.
 ghost use Rattle.std.specs.Prelude.{◌≡◌, ◌<◌, length, slice_set, IfOk};
-ghost use Rattle.hc_base.specs.Layout.{HasContent};
+ghost use Rattle.hc_base.specs.Layout.{IsPage};
 ghost use Rattle.hc_rows.specs.Places.{IsLayout, HasPage, HasNumber, page_at, map_at, total};
-ghost use Rattle.hc_rule.specs.Start.{IsFirst, IsLaid, IsNamed, IsBlank, IsWritten, mapped, names};
+ghost use Rattle.hc_rule.specs.Start.{IsFirst, IsLaid, IsNamed, IsBlank, IsWritten, first_leaf as empty, first_inner as over, mapped, names};
 
 use hc_base::{Logical, MapWord, Page, PageWord, Phys};
 use hc_page::{Head, begin, finish, push_child};
@@ -69,7 +69,7 @@ fn name_number(layout: &Layout, number: u32, words: &mut [u64])
 }
 
 fn first_leaf(out: &mut Page)
-    ensures content { HasContent out.new.words }
+    ensures content { IsPage out.new.words empty }
     ensures long { length out.new.words ≡ 256 }
 {
     let head = Head {
@@ -85,7 +85,7 @@ fn first_leaf(out: &mut Page)
 
 // An inner page of level 1, which has the leaf for all keys.
 fn first_inner(out: &mut Page)
-    ensures content { HasContent out.new.words }
+    ensures content { IsPage out.new.words over }
     ensures long { length out.new.words ≡ 256 }
 {
     let head = Head {

@@ -5,7 +5,6 @@ ghost use Rattle.hc_rule.specs.Views.{bare};
 ghost use Rattle.hc_rule.specs.declared.view.Role.TheVariants.{Connection};
 
 use atomic_table::{Seat, Shared};
-use hc_base::Phys;
 use hc_rows::Layout;
 use hc_rule::{Rule, View};
 
@@ -25,21 +24,4 @@ pub struct Grip<'a> {
     ghost hinted: { HasPage layout hint },
     ghost bare_seat: { seat.me ≡ bare seat.me.0 },
     ghost connected: { seat.me.0.role ≡ Connection conn },
-}
-
-impl<'a> Grip<'a> {
-    /// Where the next claim of a page begins.
-    pub fn hint(&self) -> Phys
-        ensures { HasPage self.now.layout result.0 }
-    {
-        Phys(self.hint)
-    }
-
-    /// The next claim of a page begins at this one.
-    pub fn begin_at(&mut self, p: Phys)
-        requires page { HasPage self.old.layout p.0 }
-        ensures same { (self.new.layout ≡ self.old.layout) × (self.new.conn ≡ self.old.conn) × (self.new.seat.me ≡ self.old.seat.me) }
-    {
-        self.hint = p.0;
-    }
 }

@@ -6,6 +6,7 @@ ghost use Rattle.hc_rule.specs.Views.{bare};
 ghost use Rattle.hc_base.specs.declared.page_word.PageWord.{PageWord as Form};
 ghost use Rattle.hc_base.specs.declared.page_word.PageWord.TheVariants.{Free};
 ghost use Rattle.hc_rule.specs.declared.view.Role.TheVariants.{Connection};
+ghost use Rattle.hc_steps.specs.Same.{IsSame};
 ghost use Rattle.hc_rule.specs.Kinds.LoadPage.{LoadsPage, with_found};
 ghost use Rattle.hc_rule.specs.Kinds.TakePage.{TakesPage, TookPage};
 ghost use Rattle.hc_rule.specs.Kinds.StorePage.{Owns, MayStore, StoresPage};
@@ -17,29 +18,14 @@ use hc_rows::Layout;
 use hc_rule::{Rule, View};
 use std::marker::{Brand, PhantomData};
 
-// The page that a load is of, and the place of its word: a load elsewhere tells nothing of the page. A step's play cannot
-// read its arguments, so each call of `load_page_as` picks them.
-trait Loading {
-    ghost page: { ℕ };
+// The seat notes where it loaded, and what it found there.
+struct Loads;
 
-    ghost place: { ℕ };
+impl Play<(), View> for Loads {
+    ghost then = { λ step before found after. LoadsPage step.word before.0 found after };
 }
 
-impl Loading for Brand {
-    ghost page = { 0 };
-
-    ghost place = { 0 };
-}
-
-struct Loads<N> {
-    loading: PhantomData<N>,
-}
-
-impl<N: Loading> Play<(), View> for Loads<N> {
-    ghost then = { λ step before found after. (step.word ≡ N.place) × LoadsPage N.page before.0 found after };
-}
-
-fn load_page_as<N: Loading>(
+fn load_page_at(
     table: &Shared<(), View, Layout, Rule>,
     layout: &Layout,
     seat: &mut Seat<(), View>,
@@ -51,19 +37,24 @@ fn load_page_as<N: Loading>(
     requires ranged { IsLayout layout.now }
     requires bare { seat.old.me ≡ bare seat.old.me.0 }
     requires page { HasPage layout.now p.0 }
-    requires picked { (N.page ≡ p.0) × (N.place ≡ page_at layout.now p.0) }
     ensures table { seat.new.table_id ≡ seat.old.table_id }
-    ensures told { LoadsPage p.0 seat.old.me.0 result seat.new.me }
+    ensures told { LoadsPage (page_at layout.now p.0) seat.old.me.0 result seat.new.me }
 {
-    table.load::<Loads<N>>(seat, layout.page_at(p) as usize)
+    table.load::<Loads>(seat, layout.page_at(p) as usize)
 }
 
+// The page of an exchange, and the next one that it is to name. A step's play cannot read its arguments, so each call of
+// `take_page_as` picks them.
 trait Taking {
     ghost page: { ℕ };
+
+    ghost next: { ℕ };
 }
 
 impl Taking for Brand {
     ghost page = { 0 };
+
+    ghost next = { 0 };
 }
 
 struct Takes<N> {
@@ -71,7 +62,7 @@ struct Takes<N> {
 }
 
 impl<N: Taking> Play<(), View> for Takes<N> {
-    ghost then = { λ step before found after. TakesPage N.page before.0 found after };
+    ghost then = { λ step before found after. TakesPage step.word N.page N.next before.0 found after };
 }
 
 fn take_page_as<N: Taking>(
@@ -89,9 +80,9 @@ fn take_page_as<N: Taking>(
     requires bare { seat.old.me ≡ bare seat.old.me.0 }
     requires connected { seat.old.me.0.role ≡ Connection conn }
     requires page { HasPage layout.now p.0 }
-    requires picked { N.page ≡ p.0 }
+    requires picked { (N.page ≡ p.0) × (N.next ≡ next) }
     ensures table { seat.new.table_id ≡ seat.old.table_id }
-    ensures told { TakesPage p.0 seat.old.me.0 result seat.new.me }
+    ensures told { TakesPage (page_at layout.now p.0) p.0 next seat.old.me.0 result seat.new.me }
 {
     let new = PageWord::Owned { seat: conn, next }.pack();
     table.compare_exchange::<Takes<N>>(seat, layout.page_at(p) as usize, 0, new)
@@ -143,15 +134,15 @@ fn store_page_as<N: Storing>(
 }
 
 impl<'a> Grip<'a> {
-    /// Loads the word of a page. The seat notes what it found.
+    /// Loads the word of a page. The seat notes where it loaded, the place of that page's word, and what it found.
     pub fn load_page(&mut self, p: Phys) -> PageWord
         requires page { HasPage self.old.layout p.0 }
         ensures form { IsPageWord result }
-        ensures seat { self.new.seat.me ≡ bare (with_found p.0 (page_word result) self.old.seat.me.0) }
-        ensures same { (self.new.layout ≡ self.old.layout) × (self.new.conn ≡ self.old.conn) }
+        ensures seat { self.new.seat.me ≡ bare (with_found (page_at self.old.layout p.0) (page_word result) self.old.seat.me.0) }
+        ensures same { IsSame self.old self.new }
     {
         let table = self.table;
-        let word = load_page_as::<Brand>(table, &self.layout, &mut self.seat, p);
+        let word = load_page_at(table, &self.layout, &mut self.seat, p);
         match PageWord::unpack(word) {
             Some(form) => form,
             None => unreachable!(),
@@ -163,8 +154,8 @@ impl<'a> Grip<'a> {
     pub fn take_page(&mut self, p: Phys, seen: PageWord, next: u32) -> bool
         requires page { HasPage self.old.layout p.0 }
         requires seen { seen ≡ Free }
-        ensures taken { TookPage p.0 self.old.seat.me.0 result self.new.seat.me }
-        ensures same { (self.new.layout ≡ self.old.layout) × (self.new.conn ≡ self.old.conn) }
+        ensures taken { TookPage (page_at self.old.layout p.0) p.0 next self.old.seat.me.0 result self.new.seat.me }
+        ensures same { IsSame self.old self.new }
     {
         let table = self.table;
         let found = take_page_as::<Brand>(table, &self.layout, self.conn, &mut self.seat, p, next);
@@ -177,7 +168,7 @@ impl<'a> Grip<'a> {
         requires owns { Owns self.old.seat.me.0 p.0 }
         requires form { IsPageWord w × MayStore self.old.conn w }
         ensures stored { StoresPage p.0 w self.old.seat.me.0 self.new.seat.me }
-        ensures same { (self.new.layout ≡ self.old.layout) × (self.new.conn ≡ self.old.conn) }
+        ensures same { IsSame self.old self.new }
     {
         let table = self.table;
         store_page_as::<Brand>(table, &self.layout, self.conn, &mut self.seat, p, w);

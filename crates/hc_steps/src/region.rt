@@ -91,7 +91,8 @@ impl Region {
         requires room { dealer.old.dealt < self.now.layout.seats }
         ensures conn { (result.conn ≡ dealer.old.dealt) × (result.layout ≡ self.now.layout) }
         ensures view { result.seat.me.0 ≡ dealt_view dealer.old.dealt }
-        ensures dealer { (dealer.new.dealt ≡ dealer.old.dealt + 1) × (dealer.new.seat.table_id ≡ dealer.old.seat.table_id) }
+        ensures table { (result.seat.table_id ≡ dealer.old.seat.table_id) × (dealer.new.seat.table_id ≡ dealer.old.seat.table_id) }
+        ensures dealer { dealer.new.dealt ≡ dealer.old.dealt + 1 }
     {
         let table = &self.table.shared;
         let dealt = dealer.dealt;

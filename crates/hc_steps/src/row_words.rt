@@ -4,7 +4,8 @@ ghost use Rattle.hc_base.specs.Lookup.{Among};
 ghost use Rattle.hc_rows.specs.Places.{IsLayout, HasPage, total};
 ghost use Rattle.hc_rule.specs.Views.{bare};
 ghost use Rattle.hc_rule.specs.declared.view.Role.TheVariants.{Connection};
-ghost use Rattle.hc_rule.specs.Kinds.Rows.{LoadsRow, StoresRow, ReadsPage};
+ghost use Rattle.hc_steps.specs.Same.{IsSame};
+ghost use Rattle.hc_rule.specs.Kinds.Rows.{LoadsRow, StoresRow, ReadsPage, IsWhole, with_row};
 ghost use Rattle.hc_rule.specs.Kinds.StorePage.{Owns};
 
 use crate::grip::Grip;
@@ -95,7 +96,7 @@ impl<'a> Grip<'a> {
         requires page { HasPage self.old.layout p.0 }
         requires word { word < 256 }
         ensures found { LoadsRow p.0 word self.old.seat.me.0 result self.new.seat.me }
-        ensures same { (self.new.layout ≡ self.old.layout) × (self.new.conn ≡ self.old.conn) }
+        ensures same { IsSame self.old self.new }
     {
         let table = self.table;
         load_row_as::<Brand>(table, &self.layout, &mut self.seat, p, word)
@@ -107,7 +108,7 @@ impl<'a> Grip<'a> {
         requires owns { Owns self.old.seat.me.0 p.0 }
         requires word { word < 256 }
         ensures stored { StoresRow p.0 word self.old.seat.me.0 w self.new.seat.me }
-        ensures same { (self.new.layout ≡ self.old.layout) × (self.new.conn ≡ self.old.conn) }
+        ensures same { IsSame self.old self.new }
     {
         let table = self.table;
         store_row_as::<Brand>(table, &self.layout, self.conn, &mut self.seat, p, word, w);
@@ -118,10 +119,36 @@ impl<'a> Grip<'a> {
         requires page { HasPage self.old.layout p.0 }
         ensures read { ReadsPage p.0 self.old.seat.me.0 out.new.words }
         ensures seat { self.new.seat.me.0 ≡ self.old.seat.me.0 }
-        ensures same { (self.new.layout ≡ self.old.layout) × (self.new.conn ≡ self.old.conn) }
+        ensures same { IsSame self.old self.new }
     {
         for word in 0..256u16 {
             out.words[word as usize] = self.load_row(p, word);
+        }
+    }
+
+    /// Writes the whole row of a page that the seat owns: each word is loaded, and stored only where it differs.
+    pub fn write_page(&mut self, p: Phys, page: &Page)
+        requires page { HasPage self.old.layout p.0 }
+        requires owns { Owns self.old.seat.me.0 p.0 }
+        ensures written { self.new.seat.me.0 ≡ with_row p.0 page.now.words self.old.seat.me.0 }
+        ensures same { IsSame self.old self.new }
+    {
+        for word in 0..256u16 {
+            self.write_word(p, word, page.words[word as usize]);
+        }
+    }
+
+    // Stores a word where it differs.
+    fn write_word(&mut self, p: Phys, word: u16, w: u64)
+        requires page { HasPage self.old.layout p.0 }
+        requires owns { Owns self.old.seat.me.0 p.0 }
+        requires word { word < 256 }
+        ensures stored { StoresRow p.0 word self.old.seat.me.0 w self.new.seat.me }
+        ensures whole { IsWhole p.0 self.old.seat.me.0 }
+        ensures same { IsSame self.old self.new }
+    {
+        if self.load_row(p, word) != w {
+            self.store_row(p, word, w);
         }
     }
 }

@@ -5,48 +5,32 @@ use mathlib.Core.Option.{some}
 use lib.ListN.{get_elem?}
 use Rattle.hc_rows.specs.declared.layout.Layout.{Layout}
 use Rattle.hc_rows.specs.Places.{HasPage, page_at}
-use Rattle.hc_rows.specs.Regions.{page_words, map_words, rows}
+use Rattle.hc_rows.specs.Regions.{page_words}
 use Rattle.hc_rows.proofs.Steps.{words_are}
 use Rattle.atomic_table.specs.Table.{State as TableState, keeps, Allows}
 use Rattle.hc_rule.specs.declared.view.View.{View}
-use Rattle.hc_rule.specs.Views.{known, bare}
-use Rattle.hc_rule.specs.States.{form_of, IsStated}
-use Rattle.hc_rule.specs.Reach.{IsReached}
-use Rattle.hc_rule.specs.Seats.{IsDealt}
+use Rattle.hc_rule.specs.Views.{bare}
+use Rattle.hc_rule.specs.States.{form_of}
 use Rattle.hc_rule.specs.Rule.{Holds}
 use Rattle.hc_rule.specs.Kinds.LoadPage.{with_found, LoadsPage}
+use Rattle.hc_rule.proofs.Along.{holds_along}
 use Rattle.hc_rule.proofs.Views.{known_kept}
 
 -- no part reads what was found
-pub found_kept : (y : Layout) (words : List ℕ) (views : List View) (id : ℕ) (v : View) (p n : ℕ) → get_elem? views id ≡ some v → Holds y words views → Holds y words (set views id (with_found p n v))
-found_kept y words views id v p n at h =
-    let w = with_found p n v in
-    let role = known_kept (λ x. x.role) views id v w at refl in
-    let pages = known_kept (λ x. x.pages) views id v w at refl in
-    let claimed = known_kept (λ x. x.claimed) views id v w at refl in
-    let loaded = known_kept (λ x. x.loaded) views id v w at refl in
-    record {
-      layout = h.layout;
-      sized = h.sized;
-      dealt = subst (λ f. IsDealt y.seats f) (sym role) h.dealt;
-      state = h.state;
-      stated =
-          subst (λ f. IsStated h.state (page_words y words) (map_words y words) (known (λ x. x.role) (set views id w)) (known (λ x. x.pages) (set views id w)) f) (sym claimed)
-          (subst (λ f. IsStated h.state (page_words y words) (map_words y words) (known (λ x. x.role) (set views id w)) f (known (λ x. x.claimed) views)) (sym pages)
-          (subst (λ f. IsStated h.state (page_words y words) (map_words y words) f (known (λ x. x.pages) views) (known (λ x. x.claimed) views)) (sym role) h.stated));
-      reached =
-          subst (λ f. IsReached h.state (rows y words) (known (λ x. x.loaded) (set views id w)) f) (sym pages)
-          (subst (λ f. IsReached h.state (rows y words) f (known (λ x. x.pages) views)) (sym loaded) h.reached);
-    }
+pub found_kept : (y : Layout) (words : List ℕ) (views : List View) (id : ℕ) (v : View) (place n : ℕ) → get_elem? views id ≡ some v → Holds y words views → Holds y words (set views id (with_found place n v))
+found_kept y words views id v place n at h =
+    let w = with_found place n v in
+    holds_along y words words views (set views id (with_found place n v)) h refl refl refl refl (known_kept (λ x. x.role) views id v w at refl) (known_kept (λ x. x.pages) views id v w at refl)
+    (known_kept (λ x. x.claimed) views id v w at refl) (known_kept (λ x. x.loaded) views id v w at refl)
 
 pub load_page_allows : (y : Layout) (slots id : ℕ) (v : View) (p : ℕ) → HasPage y p
-    → Allows (λ (s : TableState Unit View). Holds y s.words s.views) slots id (bare v) (page_at y p) (λ n. n) (λ n after. LoadsPage p v n after)
+    → Allows (λ (s : TableState Unit View). Holds y s.words s.views) slots id (bare v) (page_at y p) (λ n. n) (λ n after. LoadsPage (page_at y p) v n after)
 load_page_allows y slots id v p there s h len at below =
     let n = get_or s.words (page_at y p) 0 in
     let is : page_words y s.words p ≡ n = words_are (page_at y) 1 (y.pages + 1) s.words p there.0 (omega (arith, there)) in (
-      with_found p n v,
+      with_found (page_at y p) n v,
       keeps,
       tt,
-      subst (λ ws. Holds y ws (set s.views id (with_found p n v))) (sym (set-get_or s.words (page_at y p) 0)) (found_kept y s.words s.views id v p n at h),
+      subst (λ ws. Holds y ws (set s.views id (with_found (page_at y p) n v))) (sym (set-get_or s.words (page_at y p) 0)) (found_kept y s.words s.views id v (page_at y p) n at h),
       ((form_of (h.state p), h.stated.form p, sym (h.stated.word p) ∙ is), refl),
     )

@@ -11,18 +11,18 @@ use Rattle.hc_rows.specs.Places.{HasPage, page_at}
 use Rattle.hc_rows.specs.Regions.{page_words, map_words, rows}
 use Rattle.hc_rows.proofs.Steps.{at_page}
 use Rattle.atomic_table.specs.Table.{State as TableState, keeps, Allows}
-use Rattle.atomic_table.proofs.Lists.{set_again}
 use Rattle.hc_rule.specs.declared.view.View.{View}
 use Rattle.hc_rule.specs.declared.view.Role.TheVariants.{Connection}
 use Rattle.hc_rule.specs.Views.{known, bare}
 use Rattle.hc_rule.specs.States.{Free, Owned, IsOwnedBy}
-use Rattle.hc_rule.specs.Seats.{IsDealt}
 use Rattle.hc_rule.specs.Rule.{Holds}
-use Rattle.hc_rule.specs.Kinds.StorePage.{Owns, MayStore, without_page, without, stored, StoresPage}
-use Rattle.hc_rule.proofs.Along.{stated_along, reached_along}
-use Rattle.hc_rule.proofs.PageStates.{stated_thread, reached_thread, stated_free, reached_free}
+use Rattle.hc_rule.specs.Hands.{changed, set_next, without_page}
+use Rattle.hc_rule.specs.Kinds.StorePage.{Owns, MayStore, without, with_next, stored, StoresPage}
+use Rattle.hc_rule.proofs.Along.{holds_after}
+use Rattle.hc_rule.proofs.PageStates.{is_owned, stated_free, reached_free}
+use Rattle.hc_rule.proofs.RowStates.{stated_next, reached_next}
 use Rattle.hc_rule.proofs.Roles.{same_number}
-use Rattle.hc_rule.proofs.Views.{known_is, known_set, known_kept}
+use Rattle.hc_rule.proofs.Views.{known_is, known_kept}
 
 module _ (y : Layout) (words : List ℕ) (views : List View) (id p conn : ℕ) (v : View) (h : Holds y words views)
     (there : HasPage y p) (at : get_elem? views id ≡ some v) (mine : v.role ≡ Connection conn) (owns : Owns v p) where
@@ -34,53 +34,37 @@ module _ (y : Layout) (words : List ℕ) (views : List View) (id p conn : ℕ) (
   owned =
       let was = h.stated.held id owns.0 (subst (Among owns.0) (sym (known_is (λ x. x.pages) views id v at)) owns.1) in
       let who : was.0 ≡ conn = same_number was.0 conn (sym was.1 ∙ role_is) in
-      subst (λ q. IsOwnedBy conn (h.state q)) owns.2 (subst (λ c. IsOwnedBy c (h.state owns.0.page.0)) who was.2)
+      subst (λ q. IsOwnedBy conn (h.state q)) owns.2 (subst (λ c. IsOwnedBy c (h.state owns.0.page.0)) who (is_owned (h.state owns.0.page.0) was.0 owns.0.next was.2))
 
   small : conn < 2 ^ 8
   small = omega (arith, h.dealt.there id conn role_is, h.layout.seats)
 
-  pub thread_kept : (next : ℕ) → next < 2 ^ 32 → Holds y (set words (page_at y p) (page_word (word.Owned conn next))) (set views id v)
-  thread_kept next short =
+  pub next_kept : (next : ℕ) → next < 2 ^ 32 → Holds y (set words (page_at y p) (page_word (word.Owned conn next))) (set views id (with_next p next v))
+  next_kept next short =
       let step = at_page y words p (page_word (word.Owned conn next)) h.sized there in
-      subst (λ vs. Holds y (set words (page_at y p) (page_word (word.Owned conn next))) vs) (sym (set_again views id v at))
-      (record {
-        layout = h.layout;
-        sized = length-set words (page_at y p) (page_word (word.Owned conn next)) ∙ h.sized;
-        dealt = h.dealt;
-        state = but h.state p (Owned conn next);
-        stated =
-            stated_along (but h.state p (Owned conn next)) _ _ _ _ _ _ _ _ _ _ step.page step.map refl refl refl
-            (stated_thread h.state (page_words y words) (map_words y words) (known (λ x. x.role) views) (known (λ x. x.pages) views) (known (λ x. x.claimed) views) h.stated p conn next owned small short);
-        reached =
-            reached_along (but h.state p (Owned conn next)) _ _ _ _ _ _ step.row refl refl
-            (reached_thread h.state (page_words y words) (map_words y words) (known (λ x. x.role) views) (known (λ x. x.pages) views) (known (λ x. x.claimed) views) h.stated p conn next owned small short (rows y words) (known (λ x. x.loaded) views) h.reached);
-      })
+      let role = known (λ x. x.role) views in
+      let hand = known (λ x. x.pages) views in
+      let claims = known (λ x. x.claimed) views in
+      holds_after y words _ views id v (with_next p next v) h at (length-set words (page_at y p) (page_word (word.Owned conn next))) refl refl
+      (but h.state p (Owned conn next)) _ _ _ step.page step.map step.row (changed p (set_next next) (known (λ x. x.pages) views id)) _ (λ is. ap (λ xs. changed p (set_next next) xs) (sym is)) (known_kept (λ x. x.claimed) views id v (with_next p next v) at refl)
+      (stated_next h.state (page_words y words) (map_words y words) role hand claims h.stated id p conn owned role_is h.dealt.one_seat next small short)
+      (reached_next h.state (page_words y words) (map_words y words) role hand claims h.stated id p conn owned role_is h.dealt.one_seat next small short (rows y words) (known (λ x. x.loaded) views) h.reached)
 
   pub free_kept : Holds y (set words (page_at y p) (page_word word.Free)) (set views id (without p v))
   free_kept =
       let step = at_page y words p (page_word word.Free) h.sized there in
-      let roles = known_kept (λ x. x.role) views id v (without p v) at refl in
-      let loads = known_kept (λ x. x.loaded) views id v (without p v) at refl in
-      let claims = known_kept (λ x. x.claimed) views id v (without p v) at refl in
-      let hands : known (λ x. x.pages) (set views id (without p v)) ≡ but (known (λ x. x.pages) views) id (without_page p (known (λ x. x.pages) views id)) =
-      known_set (λ x. x.pages) views id v (without p v) at ∙ ap (λ xs. but (known (λ x. x.pages) views) id (without_page p xs)) (sym (known_is (λ x. x.pages) views id v at)) in
-      record {
-        layout = h.layout;
-        sized = length-set words (page_at y p) (page_word word.Free) ∙ h.sized;
-        dealt = subst (λ f. IsDealt y.seats f) (sym roles) h.dealt;
-        state = but h.state p Free;
-        stated =
-            stated_along (but h.state p Free) _ _ _ _ _ _ _ _ _ _ step.page step.map roles hands claims
-            (stated_free h.state (page_words y words) (map_words y words) (known (λ x. x.role) views) (known (λ x. x.pages) views) (known (λ x. x.claimed) views) h.stated id p conn owned role_is h.dealt.one_seat);
-        reached =
-            reached_along (but h.state p Free) _ _ _ _ _ _ step.row loads hands
-            (reached_free h.state (page_words y words) (map_words y words) (known (λ x. x.role) views) (known (λ x. x.pages) views) (known (λ x. x.claimed) views) h.stated id p conn owned role_is h.dealt.one_seat (rows y words) (known (λ x. x.loaded) views) h.reached);
-      }
+      let role = known (λ x. x.role) views in
+      let hand = known (λ x. x.pages) views in
+      let claims = known (λ x. x.claimed) views in
+      holds_after y words _ views id v (without p v) h at (length-set words (page_at y p) (page_word word.Free)) refl refl
+      (but h.state p Free) _ _ _ step.page step.map step.row (without_page p (known (λ x. x.pages) views id)) _ (λ is. ap (λ xs. without_page p xs) (sym is)) (known_kept (λ x. x.claimed) views id v (without p v) at refl)
+      (stated_free h.state (page_words y words) (map_words y words) role hand claims h.stated id p conn owned role_is h.dealt.one_seat)
+      (reached_free h.state (page_words y words) (map_words y words) role hand claims h.stated id p conn owned role_is h.dealt.one_seat (rows y words) (known (λ x. x.loaded) views) h.reached)
 
   -- of each form that may be stored
   pub store_kept : (form : PageWord) → MayStore conn form → Holds y (set words (page_at y p) (page_word form)) (set views id (stored p form v))
   store_kept word.Free may = free_kept
-  store_kept (word.Owned seat next) may = subst (λ c. Holds y (set words (page_at y p) (page_word (word.Owned c next))) (set views id v)) (sym may.0) (thread_kept next may.1)
+  store_kept (word.Owned seat next) may = subst (λ c. Holds y (set words (page_at y p) (page_word (word.Owned c next))) (set views id (with_next p next v))) (sym may.0) (next_kept next may.1)
   store_kept (word.Mapped number) may = absurd may
   store_kept (word.Pending seat next) may = absurd may
   store_kept (word.Limbo stamp) may = absurd may

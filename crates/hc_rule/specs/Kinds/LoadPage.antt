@@ -6,14 +6,14 @@ use Rattle.atomic_table.specs.Table.{Me}
 use Rattle.hc_rule.specs.declared.view.View.{View}
 use Rattle.hc_rule.specs.Views.{bare}
 
--- the view with the word of a page that was found
+-- the view with a word that was found at this place
 abbrev pub with_found : ℕ → ℕ → View → View
-with_found p n v = record v { found = record { page = record { 0 = p }; word = n } ∷ v.found }
+with_found place n v = record v { found = record { place = place; word = n } ∷ v.found }
 
 -- the number is the word of a form
 abbrev pub IsForm : ℕ → Type 0
 IsForm n = (form : PageWord) × IsPageWord form × (page_word form ≡ n)
 
--- what a load of the page's word tells
+-- what a load of the word at this place tells, where it is a page's
 abbrev pub LoadsPage : ℕ → View → ℕ → Me Unit View → Type 0
-LoadsPage p v n after = IsForm n × (after ≡ bare (with_found p n v))
+LoadsPage place v n after = IsForm n × (after ≡ bare (with_found place n v))

@@ -1,30 +1,37 @@
 -- An exchange of a free page's word by the seat's own: the page is in its hand then, with the row as it is.
-use Rattle.std.specs.Prelude.{◌≡◌, ◌≢◌, ℕ, List, ◌∷◌, cond, eqb, Bool, true, false, None}
+use Rattle.std.specs.Prelude.{◌≡◌, ◌≢◌, ◌⊎◌, ℕ, List, ◌∷◌, length, Bool, true, false, None}
+use Rattle.hc_base.specs.Lookup.{Among}
 use Rattle.atomic_table.specs.Table.{Me}
 use Rattle.hc_rule.specs.declared.view.View.{View}
 use Rattle.hc_rule.specs.declared.view.Row.{Row}
 use Rattle.hc_rule.specs.declared.view.Claim.{Claim}
 use Rattle.hc_rule.specs.declared.view.Claimed.TheVariants as claimed
+use Rattle.hc_rule.specs.Hands.{row_of}
 use Rattle.hc_rule.specs.Views.{bare}
 use Rattle.hc_rule.specs.Kinds.LoadPage.{with_found}
-
--- a page and its row
-abbrev pub row_of : ℕ → List ℕ → Row
-row_of p words = record { page = record { 0 = p }; words = words }
 
 -- a page that was claimed for no transaction yet
 abbrev pub claim_of : ℕ → Claim
 claim_of p = record { tid = None; claimed = claimed.Page (record { 0 = p }) }
 
--- the view with a page in hand
-abbrev pub with_page : ℕ → List ℕ → View → View
-with_page p words v = record v { pages = row_of p words ∷ v.pages; claimed = claim_of p ∷ v.claimed }
+-- the view with a page in hand, and the next one that it names
+abbrev pub with_page : ℕ → ℕ → List ℕ → View → View
+with_page p next words v = record v { pages = row_of p next words ∷ v.pages; claimed = claim_of p ∷ v.claimed }
 
--- what the exchange tells: where it found the word 0 the page was free; else the seat notes what it found
-abbrev pub TakesPage : ℕ → View → ℕ → Me Unit View → Type 0
-TakesPage p v n after = (words : List ℕ) × (after ≡ bare (cond (eqb n 0) (with_page p words v) (with_found p n v)))
+-- no page of this number is in hand
+abbrev pub IsElsewhere : ℕ → View → Type 0
+IsElsewhere p v = (row : Row) → Among row v.pages → row.page.0 ≢ p
+
+-- the page was taken, which the seat had not, with its row of 256 words as it was
+abbrev pub Takes : ℕ → ℕ → View → Me Unit View → Type 0
+Takes p next v after = IsElsewhere p v × (words : List ℕ) × (length words ≡ 256) × (after ≡ bare (with_page p next words v))
+
+-- What the exchange of the word at this place tells: where it found the word 0 the page was free; else the seat notes what
+-- it found.
+abbrev pub TakesPage : ℕ → ℕ → ℕ → View → ℕ → Me Unit View → Type 0
+TakesPage place p next v n after = ((n ≡ 0) × Takes p next v after) ⊎ ((n ≢ 0) × (after ≡ bare (with_found place n v)))
 
 -- the same by the answer: whether the page was taken
-abbrev pub TookPage : ℕ → View → Bool → Me Unit View → Type 0
-TookPage p v true after = (words : List ℕ) × (after ≡ bare (with_page p words v))
-TookPage p v false after = (n : ℕ) × (n ≢ 0) × (after ≡ bare (with_found p n v))
+abbrev pub TookPage : ℕ → ℕ → ℕ → View → Bool → Me Unit View → Type 0
+TookPage place p next v true after = Takes p next v after
+TookPage place p next v false after = (n : ℕ) × (n ≢ 0) × (after ≡ bare (with_found place n v))

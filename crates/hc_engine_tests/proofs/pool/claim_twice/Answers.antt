@@ -7,5 +7,5 @@ pub give_back-requires-clause-owns : goal.give_back-requires-clause-owns
 give_back-requires-clause-owns c =
     let before = c.args.grip.now.seat.me.0 in
     let between = c.claim.new.grip.seat.me.0 in
-    finds_owns c.in_ok-p.p.0 between c.claim-2.new.grip.seat.me.0 (HasPage c.claim.new.grip.layout) c.in-Err.ensures.cause
+    finds_owns c.claim.new.grip.layout c.in_ok-p.p.0 between c.claim-2.new.grip.seat.me.0 (HasPage c.claim.new.grip.layout) c.in-Err.ensures.cause
     (claims_owns c.in_ok-p.p.0 before between c.in_ok-p.ensures.claimed.1)

@@ -2,7 +2,7 @@
 use Rattle.std.proofs.Common.{◌≡◌, ◌+◌, ◌≤◌, ◌<◌, ◌⊎◌, inl, inr, ℕ, sym, ap, subst, ◌∙◌, arith}
 use Rattle.std.proofs.lemmas.Bool.{cases_lt}
 use Rattle.hc_rule.specs.declared.view.View.{View}
-use Rattle.hc_pool.specs.Claiming.{Claims}
+use Rattle.hc_pool.specs.Claiming.{Claims, FindsTaken}
 use Rattle.hc_pool.proofs.Finds.{finds_both, claims_after}
 use Rattle.hc_pool.proofs.claims.claim_from.Goals as goal
 
@@ -11,8 +11,8 @@ returns-then-try_claim-clause-claimed c =
     let v = c.args.grip.now.seat.me.0 in
     let w = c.pages.grip.seat.me.0 in (
       (omega arith, omega (arith, c.requires.upto)),
-      subst (λ (x : View). Claims c.pages.number v x) (sym (ap (λ m. m.0) c.begin_at.ensures.same.2))
-          (claims_after c.pages.number v w c.try_claim.new.grip.seat.me.0 (λ p. (c.args.from ≤ p) × (p < c.pages.number)) c.pages.invariant.found c.if-try_claim.ensures.tried),
+      subst (λ (x : View). Claims c.pages.number v x) (sym (ap (λ m. m.0) c.begin_at.ensures.seat))
+          (claims_after c.args.grip.now.layout c.pages.number v w c.try_claim.new.grip.seat.me.0 (λ p. (c.args.from ≤ p) × (p < c.pages.number)) c.pages.invariant.found c.if-try_claim.ensures.tried),
     )
 
 -- the pages up to this one, and this one
@@ -26,7 +26,8 @@ up_to from n p within =
 pub pages-preserved : goal.pages-preserved
 pages-preserved c = record {
   found =
-      finds_both c.args.grip.now.seat.me.0 c.pages.grip.seat.me.0 c.try_claim.new.grip.seat.me.0 (λ p. (c.args.from ≤ p) × (p < c.pages.number)) (λ p. p ≡ c.pages.number) (λ p. (c.args.from ≤ p) × (p < c.pages.number + 1))
-      (up_to c.args.from c.pages.number) c.pages.invariant.found c.if-try_claim.ensures.tried;
-  same = (c.try_claim.ensures.same.0 ∙ c.pages.invariant.same.0, c.try_claim.ensures.same.1 ∙ c.pages.invariant.same.1);
+      finds_both c.args.grip.now.layout c.args.grip.now.seat.me.0 c.pages.grip.seat.me.0 c.try_claim.new.grip.seat.me.0 (λ p. (c.args.from ≤ p) × (p < c.pages.number)) (λ p. p ≡ c.pages.number) (λ p. (c.args.from ≤ p) × (p < c.pages.number + 1))
+      (up_to c.args.from c.pages.number) c.pages.invariant.found
+      (subst (λ y. FindsTaken y (λ p. p ≡ c.pages.number) c.pages.grip.seat.me.0 c.try_claim.new.grip.seat.me.0) c.pages.invariant.same.0 c.if-try_claim.ensures.tried);
+  same = (c.try_claim.ensures.same.0 ∙ c.pages.invariant.same.0, c.try_claim.ensures.same.1 ∙ c.pages.invariant.same.1, c.try_claim.ensures.same.2 ∙ c.pages.invariant.same.2);
 }

@@ -12,7 +12,7 @@ finish-requires c =
 pub returns-clause-content : goal.returns-clause-content
 returns-clause-content c =
     let drafted = c.push_child-draft.ensures.draft _ c.begin-draft.ensures.draft in
-    (first_inner_page, c.finish.ensures.page first_inner_page (drafted, sym drafted.count ∙ sym (c.push_child-draft.ensures.total ∙ c.begin-draft.ensures.total), inner_content))
+    c.finish.ensures.page first_inner_page (drafted, sym drafted.count ∙ sym (c.push_child-draft.ensures.total ∙ c.begin-draft.ensures.total), inner_content)
 
 pub returns-clause-long : goal.returns-clause-long
-returns-clause-long c = let has = returns-clause-content c in page_long c.finish.new.out.words has.0 has.1
+returns-clause-long c = page_long c.finish.new.out.words first_inner_page (returns-clause-content c)

@@ -6,7 +6,7 @@ use Rattle.hc_steps.proofs.first.first_leaf.Goals as goal
 
 pub returns-clause-content : goal.returns-clause-content
 returns-clause-content c =
-    let drafted = c.begin-draft.ensures.draft in (empty_leaf, c.finish.ensures.page empty_leaf (drafted, sym drafted.count ∙ sym c.begin-draft.ensures.total, empty_content))
+    let drafted = c.begin-draft.ensures.draft in c.finish.ensures.page empty_leaf (drafted, sym drafted.count ∙ sym c.begin-draft.ensures.total, empty_content)
 
 pub returns-clause-long : goal.returns-clause-long
-returns-clause-long c = let has = returns-clause-content c in page_long c.finish.new.out.words has.0 has.1
+returns-clause-long c = page_long c.finish.new.out.words empty_leaf (returns-clause-content c)

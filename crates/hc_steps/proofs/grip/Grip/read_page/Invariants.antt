@@ -1,13 +1,16 @@
--- The words before are those of the row that the seat knows.
+-- The words before are those of the row that the seat knows, which has 256 words.
 use Rattle.std.proofs.Common.{◌≡◌, ◌<◌, ℕ, length, get_or}
 use Rattle.hc_base.specs.Lookup.{Among}
 use Rattle.hc_rule.specs.declared.view.Row.{Row}
+use Rattle.hc_rule.specs.Kinds.Rows.{IsWhole}
+use Rattle.hc_steps.specs.Same.{IsSame}
 use Rattle.hc_steps.proofs.grip.Grip.read_page.Given as goal
 
 abbrev pub invariant-loop-word : goal.invariant-loop-word
 invariant-loop-word l = record {
   long : length l.out.words ≡ 256;
   seat : l.self.seat.me.0 ≡ l.initial.self.seat.me.0;
-  same : (l.self.layout ≡ l.initial.self.layout) × (l.self.conn ≡ l.initial.self.conn);
+  same : IsSame l.initial.self l.self;
+  whole : 0 < l.word → IsWhole l.p.0 l.initial.self.seat.me.0;
   read : (row : Row) → Among row l.initial.self.seat.me.0.pages → row.page.0 ≡ l.p.0 → (k : ℕ) → k < l.word → get_or l.out.words k 0 ≡ get_or row.words k 0;
 }

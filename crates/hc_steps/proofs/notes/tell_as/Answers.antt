@@ -1,0 +1,19 @@
+-- The split keeps the rule.
+use Rattle.std.proofs.Common.{sym, subst, arith}
+use Rattle.atomic_table.specs.Table.{State, Splits}
+use Rattle.hc_rows.proofs.Steps.{total_some}
+use Rattle.hc_rule.specs.declared.view.View.{View}
+use Rattle.hc_rule.specs.Rule.{Holds}
+use Rattle.hc_rule.specs.Kinds.Note.{note_of}
+use Rattle.hc_rule.proofs.Kept.Note.{note_splits}
+use Rattle.hc_steps.proofs.notes.tell_as.Goals as goal
+
+pub split_seat-requires : goal.split_seat-requires
+split_seat-requires c =
+    let y = c.args.layout.now in
+    let v = c.args.seat.now.me.0 in
+    let some = total_some y in (
+      c.requires.table,
+      omega (arith, some, c.requires.sized),
+      subst (λ k. Splits (λ (s : State Unit View). Holds k s.words s.views) c.args.seat.now.id v v (note_of v)) (sym c.requires.keyed) (note_splits y c.args.seat.now.id v),
+    )

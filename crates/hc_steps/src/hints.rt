@@ -1,0 +1,25 @@
+//! Where a claim of a page begins.
+ghost use Rattle.std.specs.Prelude.{◌≡◌};
+ghost use Rattle.hc_rows.specs.Places.{HasPage};
+ghost use Rattle.hc_steps.specs.Same.{IsSame};
+
+use crate::grip::Grip;
+use hc_base::Phys;
+
+impl<'a> Grip<'a> {
+    /// Where the next claim of a page begins.
+    pub fn hint(&self) -> Phys
+        ensures { HasPage self.now.layout result.0 }
+    {
+        Phys(self.hint)
+    }
+
+    /// The next claim of a page begins at this one.
+    pub fn begin_at(&mut self, p: Phys)
+        requires page { HasPage self.old.layout p.0 }
+        ensures seat { self.new.seat.me ≡ self.old.seat.me }
+        ensures same { IsSame self.old self.new }
+    {
+        self.hint = p.0;
+    }
+}

@@ -1,0 +1,96 @@
+//! What one seat tells another.
+ghost use Rattle.std.specs.Prelude.{◌≡◌};
+ghost use Rattle.hc_rows.specs.Places.{total};
+ghost use Rattle.hc_rule.specs.Views.{bare};
+ghost use Rattle.hc_rule.specs.Kinds.Note.{note_of, informed};
+ghost use Rattle.hc_steps.specs.Same.{IsSame};
+
+use crate::grip::Grip;
+use atomic_table::{Join, Seat, Shared, Split};
+use hc_rows::Layout;
+use hc_rule::{Rule, View};
+
+/// What a seat has seen and was told of, to be told to another seat of the same table. It has no connection, page or
+/// number.
+#[derive(Drop)]
+pub struct Note {
+    pub seat: Seat<(), View>,
+    ghost bare_seat: { seat.me ≡ bare seat.me.0 },
+    ghost note: { seat.me.0 ≡ note_of seat.me.0 },
+}
+
+// How a note is given and taken in.
+struct Notes;
+
+impl Split<View> for Notes {
+    ghost use Rattle.hc_rule.specs.Kinds.Note.{note_of};
+
+    ghost left = { λ v. v };
+
+    ghost right = { note_of };
+}
+
+impl Join<View> for Notes {
+    ghost use Rattle.hc_rule.specs.Views.{nobody};
+    ghost use Rattle.hc_rule.specs.Kinds.Note.{informed};
+
+    ghost both = { informed };
+
+    ghost spent = { nobody };
+}
+
+fn tell_as(
+    table: &Shared<(), View, Layout, Rule>,
+    layout: &Layout,
+    seat: &mut Seat<(), View>,
+) -> Seat<(), View>
+    requires table { seat.old.table_id ≡ table.now.table_id }
+    requires keyed { table.now.key ≡ layout.now }
+    requires sized { table.now.table_id.words ≡ total layout.now }
+    ensures table { (seat.new.table_id ≡ seat.old.table_id) × (result.table_id ≡ seat.old.table_id) }
+    ensures seat { seat.new.me ≡ seat.old.me }
+    ensures note { result.me ≡ bare (note_of seat.old.me.0) }
+{
+    table.split_seat::<Notes>(seat)
+}
+
+fn learn_as(
+    table: &Shared<(), View, Layout, Rule>,
+    layout: &Layout,
+    seat: &mut Seat<(), View>,
+    note: Seat<(), View>,
+)
+    requires table { (seat.old.table_id ≡ table.now.table_id) × (note.table_id ≡ table.now.table_id) }
+    requires keyed { table.now.key ≡ layout.now }
+    requires sized { table.now.table_id.words ≡ total layout.now }
+    requires bare { (seat.old.me ≡ bare seat.old.me.0) × (note.me ≡ bare note.me.0) }
+    requires note { note.me.0 ≡ note_of note.me.0 }
+    ensures table { seat.new.table_id ≡ seat.old.table_id }
+    ensures told { seat.new.me ≡ bare (informed seat.old.me.0 note.me.0) }
+{
+    table.join_seat::<Notes>(seat, note)
+}
+
+impl<'a> Grip<'a> {
+    /// A note of what the seat has seen and was told of, for another seat of the same table.
+    pub fn tell(&mut self) -> Note
+        ensures note { result.seat.me.0 ≡ note_of self.old.seat.me.0 }
+        ensures table { result.seat.table_id ≡ self.old.seat.table_id }
+        ensures seat { self.new.seat.me ≡ self.old.seat.me }
+        ensures same { IsSame self.old self.new }
+    {
+        let table = self.table;
+        let seat = tell_as(table, &self.layout, &mut self.seat);
+        Note { seat }
+    }
+
+    /// Takes in what another seat of the table has seen and was told of.
+    pub fn learn(&mut self, note: Note)
+        requires table { note.seat.table_id ≡ self.old.seat.table_id }
+        ensures told { self.new.seat.me ≡ bare (informed self.old.seat.me.0 note.seat.me.0) }
+        ensures same { IsSame self.old self.new }
+    {
+        let table = self.table;
+        learn_as(table, &self.layout, &mut self.seat, note.seat);
+    }
+}
