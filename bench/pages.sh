@@ -1,6 +1,6 @@
 #!/usr/bin/env bash
-# Times look-ups in a leaf and puts into it, by the program hc_page_bench: a line for each part, as a ratio to the
-# copy of an array of 2,048 bytes. The program is proved and built first where a source has changed.
+# Times look-ups in a leaf and puts into it, and steps on a region, by the program hc_page_bench: a line for each part,
+# as a ratio. The program is proved and built first where a source has changed.
 cd "$(dirname "$0")/../crates/hc_page_bench" || exit 1
 
 if ! command -v rt >/dev/null; then

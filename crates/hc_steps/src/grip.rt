@@ -8,10 +8,16 @@ use atomic_table::{Seat, Shared};
 use hc_rows::Layout;
 use hc_rule::{Rule, View};
 
+/// The engine's table.
+pub(crate) type Words = Shared<(), View, Layout, Rule>;
+
+/// A seat at it.
+pub(crate) type Token = Seat<(), View>;
+
 /// A connection's access to the table. Its seat's view is what it knows.
 #[derive(Drop)]
 pub struct Grip<'a> {
-    pub(crate) table: &'a Shared<(), View, Layout, Rule>,
+    pub(crate) table: &'a Words,
     pub layout: Layout,
     pub conn: u8,
     /// Where the next claim of a page begins.

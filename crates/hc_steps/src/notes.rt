@@ -1,14 +1,14 @@
 //! What one seat tells another.
 ghost use Rattle.std.specs.Prelude.{◌≡◌};
-ghost use Rattle.hc_rows.specs.Places.{total};
 ghost use Rattle.hc_rule.specs.Views.{bare};
 ghost use Rattle.hc_rule.specs.Kinds.Note.{note_of, informed};
 ghost use Rattle.hc_steps.specs.Same.{IsSame};
+ghost use Rattle.hc_steps.specs.Seated.{IsSeated};
 
-use crate::grip::Grip;
-use atomic_table::{Join, Seat, Shared, Split};
+use crate::grip::{Grip, Token, Words};
+use atomic_table::{Join, Seat, Split};
 use hc_rows::Layout;
-use hc_rule::{Rule, View};
+use hc_rule::View;
 
 /// What a seat has seen and was told of, to be told to another seat of the same table. It has no connection, page or
 /// number.
@@ -39,14 +39,8 @@ impl Join<View> for Notes {
     ghost spent = { nobody };
 }
 
-fn tell_as(
-    table: &Shared<(), View, Layout, Rule>,
-    layout: &Layout,
-    seat: &mut Seat<(), View>,
-) -> Seat<(), View>
-    requires table { seat.old.table_id ≡ table.now.table_id }
-    requires keyed { table.now.key ≡ layout.now }
-    requires sized { table.now.table_id.words ≡ total layout.now }
+fn tell_as(table: &Words, layout: &Layout, seat: &mut Token) -> Token
+    requires seated { IsSeated table.now.table_id table.now.key layout.now seat.old.table_id seat.old.me }
     ensures table { (seat.new.table_id ≡ seat.old.table_id) × (result.table_id ≡ seat.old.table_id) }
     ensures seat { seat.new.me ≡ seat.old.me }
     ensures note { result.me ≡ bare (note_of seat.old.me.0) }
@@ -54,17 +48,9 @@ fn tell_as(
     table.split_seat::<Notes>(seat)
 }
 
-fn learn_as(
-    table: &Shared<(), View, Layout, Rule>,
-    layout: &Layout,
-    seat: &mut Seat<(), View>,
-    note: Seat<(), View>,
-)
-    requires table { (seat.old.table_id ≡ table.now.table_id) × (note.table_id ≡ table.now.table_id) }
-    requires keyed { table.now.key ≡ layout.now }
-    requires sized { table.now.table_id.words ≡ total layout.now }
-    requires bare { (seat.old.me ≡ bare seat.old.me.0) × (note.me ≡ bare note.me.0) }
-    requires note { note.me.0 ≡ note_of note.me.0 }
+fn learn_as(table: &Words, layout: &Layout, seat: &mut Token, note: Token)
+    requires seated { IsSeated table.now.table_id table.now.key layout.now seat.old.table_id seat.old.me }
+    requires note { (note.table_id ≡ table.now.table_id) × (note.me ≡ bare note.me.0) × (note.me.0 ≡ note_of note.me.0) }
     ensures table { seat.new.table_id ≡ seat.old.table_id }
     ensures told { seat.new.me ≡ bare (informed seat.old.me.0 note.me.0) }
 {
@@ -79,8 +65,7 @@ impl<'a> Grip<'a> {
         ensures seat { self.new.seat.me ≡ self.old.seat.me }
         ensures same { IsSame self.old self.new }
     {
-        let table = self.table;
-        let seat = tell_as(table, &self.layout, &mut self.seat);
+        let seat = tell_as(self.table, &self.layout, &mut self.seat);
         Note { seat }
     }
 
@@ -90,7 +75,6 @@ impl<'a> Grip<'a> {
         ensures told { self.new.seat.me ≡ bare (informed self.old.seat.me.0 note.seat.me.0) }
         ensures same { IsSame self.old self.new }
     {
-        let table = self.table;
-        learn_as(table, &self.layout, &mut self.seat, note.seat);
+        learn_as(self.table, &self.layout, &mut self.seat, note.seat);
     }
 }

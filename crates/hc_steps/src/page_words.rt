@@ -1,21 +1,22 @@
 //! Steps on the word of a page.
 ghost use Rattle.std.specs.Prelude.{◌≡◌, ℕ};
 ghost use Rattle.hc_base.specs.Words.{IsPageWord, page_word};
-ghost use Rattle.hc_rows.specs.Places.{IsLayout, HasPage, page_at, total};
+ghost use Rattle.hc_rows.specs.Places.{HasPage, page_at};
 ghost use Rattle.hc_rule.specs.Views.{bare};
 ghost use Rattle.hc_base.specs.declared.page_word.PageWord.{PageWord as Form};
 ghost use Rattle.hc_base.specs.declared.page_word.PageWord.TheVariants.{Free};
 ghost use Rattle.hc_rule.specs.declared.view.Role.TheVariants.{Connection};
 ghost use Rattle.hc_steps.specs.Same.{IsSame};
+ghost use Rattle.hc_steps.specs.Seated.{IsSeated};
 ghost use Rattle.hc_rule.specs.Kinds.LoadPage.{LoadsPage, with_found};
 ghost use Rattle.hc_rule.specs.Kinds.TakePage.{TakesPage, TookPage};
 ghost use Rattle.hc_rule.specs.Kinds.StorePage.{Owns, MayStore, StoresPage};
 
-use crate::grip::Grip;
-use atomic_table::{Play, Seat, Shared};
+use crate::grip::{Grip, Token, Words};
+use atomic_table::Play;
 use hc_base::{PageWord, Phys};
 use hc_rows::Layout;
-use hc_rule::{Rule, View};
+use hc_rule::View;
 use std::marker::{Brand, PhantomData};
 
 // The seat notes where it loaded, and what it found there.
@@ -25,17 +26,8 @@ impl Play<(), View> for Loads {
     ghost then = { λ step before found after. LoadsPage step.word before.0 found after };
 }
 
-fn load_page_at(
-    table: &Shared<(), View, Layout, Rule>,
-    layout: &Layout,
-    seat: &mut Seat<(), View>,
-    p: Phys,
-) -> u64
-    requires table { seat.old.table_id ≡ table.now.table_id }
-    requires keyed { table.now.key ≡ layout.now }
-    requires sized { table.now.table_id.words ≡ total layout.now }
-    requires ranged { IsLayout layout.now }
-    requires bare { seat.old.me ≡ bare seat.old.me.0 }
+fn load_page_at(table: &Words, layout: &Layout, seat: &mut Token, p: Phys) -> u64
+    requires seated { IsSeated table.now.table_id table.now.key layout.now seat.old.table_id seat.old.me }
     requires page { HasPage layout.now p.0 }
     ensures table { seat.new.table_id ≡ seat.old.table_id }
     ensures told { LoadsPage (page_at layout.now p.0) seat.old.me.0 result seat.new.me }
@@ -66,18 +58,14 @@ impl<N: Taking> Play<(), View> for Takes<N> {
 }
 
 fn take_page_as<N: Taking>(
-    table: &Shared<(), View, Layout, Rule>,
+    table: &Words,
     layout: &Layout,
     conn: u8,
-    seat: &mut Seat<(), View>,
+    seat: &mut Token,
     p: Phys,
     next: u32,
 ) -> u64
-    requires table { seat.old.table_id ≡ table.now.table_id }
-    requires keyed { table.now.key ≡ layout.now }
-    requires sized { table.now.table_id.words ≡ total layout.now }
-    requires ranged { IsLayout layout.now }
-    requires bare { seat.old.me ≡ bare seat.old.me.0 }
+    requires seated { IsSeated table.now.table_id table.now.key layout.now seat.old.table_id seat.old.me }
     requires connected { seat.old.me.0.role ≡ Connection conn }
     requires page { HasPage layout.now p.0 }
     requires picked { (N.page ≡ p.0) × (N.next ≡ next) }
@@ -110,18 +98,14 @@ impl<N: Storing> Play<(), View> for Stores<N> {
 }
 
 fn store_page_as<N: Storing>(
-    table: &Shared<(), View, Layout, Rule>,
+    table: &Words,
     layout: &Layout,
     conn: u8,
-    seat: &mut Seat<(), View>,
+    seat: &mut Token,
     p: Phys,
     w: PageWord,
 )
-    requires table { seat.old.table_id ≡ table.now.table_id }
-    requires keyed { table.now.key ≡ layout.now }
-    requires sized { table.now.table_id.words ≡ total layout.now }
-    requires ranged { IsLayout layout.now }
-    requires bare { seat.old.me ≡ bare seat.old.me.0 }
+    requires seated { IsSeated table.now.table_id table.now.key layout.now seat.old.table_id seat.old.me }
     requires connected { seat.old.me.0.role ≡ Connection conn }
     requires page { HasPage layout.now p.0 }
     requires owns { Owns seat.old.me.0 p.0 }
@@ -141,8 +125,7 @@ impl<'a> Grip<'a> {
         ensures seat { self.new.seat.me ≡ bare (with_found (page_at self.old.layout p.0) (page_word result) self.old.seat.me.0) }
         ensures same { IsSame self.old self.new }
     {
-        let table = self.table;
-        let word = load_page_at(table, &self.layout, &mut self.seat, p);
+        let word = load_page_at(self.table, &self.layout, &mut self.seat, p);
         match PageWord::unpack(word) {
             Some(form) => form,
             None => unreachable!(),
@@ -157,8 +140,14 @@ impl<'a> Grip<'a> {
         ensures taken { TookPage (page_at self.old.layout p.0) p.0 next self.old.seat.me.0 result self.new.seat.me }
         ensures same { IsSame self.old self.new }
     {
-        let table = self.table;
-        let found = take_page_as::<Brand>(table, &self.layout, self.conn, &mut self.seat, p, next);
+        let found = take_page_as::<Brand>(
+            self.table,
+            &self.layout,
+            self.conn,
+            &mut self.seat,
+            p,
+            next,
+        );
         found == seen.pack()
     }
 
@@ -170,7 +159,6 @@ impl<'a> Grip<'a> {
         ensures stored { StoresPage p.0 w self.old.seat.me.0 self.new.seat.me }
         ensures same { IsSame self.old self.new }
     {
-        let table = self.table;
-        store_page_as::<Brand>(table, &self.layout, self.conn, &mut self.seat, p, w);
+        store_page_as::<Brand>(self.table, &self.layout, self.conn, &mut self.seat, p, w);
     }
 }

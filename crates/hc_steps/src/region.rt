@@ -2,12 +2,13 @@
 ghost use Rattle.std.specs.Prelude.{◌≡◌, ◌<◌, ◌≤◌, ◌+◌, IfOk};
 ghost use Rattle.hc_rows.specs.Places.{IsLayout, HasPage, total};
 ghost use Rattle.hc_rule.specs.Views.{bare, dealt_view};
+ghost use Rattle.hc_steps.specs.Seated.{IsSeated};
 ghost use Rattle.hc_rule.specs.Kinds.Deal.{dealer_after, seat_dealt};
 ghost use Rattle.hc_rule.specs.declared.view.Role.TheVariants.{Dealer as Deals};
 
 use crate::first::first_words;
-use crate::grip::Grip;
-use atomic_table::{Seat, Shared, Split, Table};
+use crate::grip::{Grip, Token, Words};
+use atomic_table::{Seat, Split, Table};
 use hc_range::NoMemory;
 use hc_rows::Layout;
 use hc_rule::{Rule, View};
@@ -44,16 +45,8 @@ impl Split<View> for Next {
     ghost right = { seat_dealt };
 }
 
-fn deal_as(
-    table: &Shared<(), View, Layout, Rule>,
-    layout: &Layout,
-    dealt: u32,
-    seat: &mut Seat<(), View>,
-) -> Seat<(), View>
-    requires table { seat.old.table_id ≡ table.now.table_id }
-    requires keyed { table.now.key ≡ layout.now }
-    requires sized { table.now.table_id.words ≡ total layout.now }
-    requires bare { seat.old.me ≡ bare seat.old.me.0 }
+fn deal_as(table: &Words, layout: &Layout, dealt: u32, seat: &mut Token) -> Token
+    requires seated { IsSeated table.now.table_id table.now.key layout.now seat.old.table_id seat.old.me }
     requires dealer { seat.old.me.0.role ≡ Deals dealt }
     requires room { dealt < layout.now.seats }
     ensures table { (seat.new.table_id ≡ seat.old.table_id) × (result.table_id ≡ seat.old.table_id) }

@@ -15,9 +15,9 @@ join_seat-requires c =
     let v = c.args.seat.now.me.0 in
     let w = c.args.note.me.0 in
     let some = total_some y in (
-      c.requires.table.0,
-      c.requires.table.1,
-      ap (λ m. m.1) c.requires.bare.1,
-      omega (arith, some, c.requires.sized),
-      subst (λ k. Joins (λ (s : State Unit View). Holds k s.words s.views) c.args.seat.now.id v c.args.note.id w (informed v w) nobody) (sym c.requires.keyed) (note_joins y c.args.seat.now.id c.args.note.id v w c.requires.note),
+      c.requires.seated.0,
+      c.requires.note.0,
+      ap (λ m. m.1) c.requires.note.1,
+      omega (arith, some, c.requires.seated.2),
+      subst (λ k. Joins (λ (s : State Unit View). Holds k s.words s.views) c.args.seat.now.id v c.args.note.id w (informed v w) nobody) (sym c.requires.seated.1) (note_joins y c.args.seat.now.id c.args.note.id v w c.requires.note.2),
     )

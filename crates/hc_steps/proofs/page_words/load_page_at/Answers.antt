@@ -22,10 +22,10 @@ load-requires c =
     let slots = c.args.table.now.table_id.slots in
     let id = c.args.seat.now.id in
     let below = page_below y p c.requires.page in (
-      c.requires.table,
-      omega (arith, below, c.requires.sized, c.page_at.ensures),
-      subst (λ k. IsAllowed slots id k me c.page_at.result) (sym c.requires.keyed)
-          (subst (λ m. IsAllowed slots id y m c.page_at.result) (sym c.requires.bare)
+      c.requires.seated.0,
+      omega (arith, below, c.requires.seated.2, c.page_at.ensures),
+      subst (λ k. IsAllowed slots id k me c.page_at.result) (sym c.requires.seated.1)
+          (subst (λ m. IsAllowed slots id y m c.page_at.result) (sym c.requires.seated.4)
           (subst (λ i. IsAllowed slots id y (bare me.0) i) (sym c.page_at.ensures) (load_page_allows y slots id me.0 p c.requires.page))),
     )
 

@@ -27,10 +27,10 @@ store-requires g c =
     let slots = c.args.table.now.table_id.slots in
     let id = c.args.seat.now.id in
     let below = page_below y p c.requires.page in (
-      c.requires.table,
-      omega (arith, below, c.requires.sized, c.page_at.ensures),
-      subst (λ k. IsAllowed slots id k me c.page_at.result c.pack.result g.N.Storing.page g.N.Storing.form) (sym c.requires.keyed)
-          (subst (λ m. IsAllowed slots id y m c.page_at.result c.pack.result g.N.Storing.page g.N.Storing.form) (sym c.requires.bare)
+      c.requires.seated.0,
+      omega (arith, below, c.requires.seated.2, c.page_at.ensures),
+      subst (λ k. IsAllowed slots id k me c.page_at.result c.pack.result g.N.Storing.page g.N.Storing.form) (sym c.requires.seated.1)
+          (subst (λ m. IsAllowed slots id y m c.page_at.result c.pack.result g.N.Storing.page g.N.Storing.form) (sym c.requires.seated.4)
           (subst (λ i. IsAllowed slots id y (bare v) i c.pack.result g.N.Storing.page g.N.Storing.form) (sym c.page_at.ensures)
           (subst (λ n. IsAllowed slots id y (bare v) (page_at y p) n g.N.Storing.page g.N.Storing.form) (sym c.pack.ensures)
           (subst (λ q. IsAllowed slots id y (bare v) (page_at y p) (page_word w) q g.N.Storing.form) (sym c.requires.picked.0)

@@ -30,10 +30,10 @@ compare_exchange-requires g c =
     let id = c.args.seat.now.id in
     let new = page_word (Owned c.args.conn c.args.next) in
     let below = page_below y p c.requires.page in (
-      c.requires.table,
-      omega (arith, below, c.requires.sized, c.page_at.ensures),
-      subst (λ k. IsAllowed slots id k me c.page_at.result c.pack-new.result g.N.Taking.page g.N.Taking.next) (sym c.requires.keyed)
-          (subst (λ m. IsAllowed slots id y m c.page_at.result c.pack-new.result g.N.Taking.page g.N.Taking.next) (sym c.requires.bare)
+      c.requires.seated.0,
+      omega (arith, below, c.requires.seated.2, c.page_at.ensures),
+      subst (λ k. IsAllowed slots id k me c.page_at.result c.pack-new.result g.N.Taking.page g.N.Taking.next) (sym c.requires.seated.1)
+          (subst (λ m. IsAllowed slots id y m c.page_at.result c.pack-new.result g.N.Taking.page g.N.Taking.next) (sym c.requires.seated.4)
           (subst (λ i. IsAllowed slots id y (bare v) i c.pack-new.result g.N.Taking.page g.N.Taking.next) (sym c.page_at.ensures)
           (subst (λ w. IsAllowed slots id y (bare v) (page_at y p) w g.N.Taking.page g.N.Taking.next) (sym c.pack-new.ensures)
           (subst (λ q. IsAllowed slots id y (bare v) (page_at y p) new q g.N.Taking.next) (sym c.requires.picked.0)

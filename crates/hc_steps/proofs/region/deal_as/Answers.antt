@@ -13,8 +13,8 @@ split_seat-requires c =
     let y = c.args.layout.now in
     let v = c.args.seat.now.me.0 in
     let some = total_some y in (
-      c.requires.table,
-      omega (arith, some, c.requires.sized),
-      subst (λ k. Splits (λ (s : State Unit View). Holds k s.words s.views) c.args.seat.now.id v (dealer_after v) (seat_dealt v)) (sym c.requires.keyed)
+      c.requires.seated.0,
+      omega (arith, some, c.requires.seated.2),
+      subst (λ k. Splits (λ (s : State Unit View). Holds k s.words s.views) c.args.seat.now.id v (dealer_after v) (seat_dealt v)) (sym c.requires.seated.1)
           (deal_splits y c.args.seat.now.id c.args.dealt v c.requires.dealer c.requires.room),
     )

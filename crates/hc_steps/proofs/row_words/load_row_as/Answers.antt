@@ -25,10 +25,10 @@ load-requires g c =
     let slots = c.args.table.now.table_id.slots in
     let id = c.args.seat.now.id in
     let below = row_below y p w c.requires.page c.requires.word in (
-      c.requires.table,
-      omega (arith, below, c.requires.sized, c.row_at.ensures),
-      subst (λ k. IsAllowed slots id k me c.row_at.result g.N.Placed.page g.N.Placed.word) (sym c.requires.keyed)
-          (subst (λ m. IsAllowed slots id y m c.row_at.result g.N.Placed.page g.N.Placed.word) (sym c.requires.bare)
+      c.requires.seated.0,
+      omega (arith, below, c.requires.seated.2, c.row_at.ensures),
+      subst (λ k. IsAllowed slots id k me c.row_at.result g.N.Placed.page g.N.Placed.word) (sym c.requires.seated.1)
+          (subst (λ m. IsAllowed slots id y m c.row_at.result g.N.Placed.page g.N.Placed.word) (sym c.requires.seated.4)
           (subst (λ i. IsAllowed slots id y (bare v) i g.N.Placed.page g.N.Placed.word) (sym c.row_at.ensures)
           (subst (λ q. IsAllowed slots id y (bare v) (row_at y p w) q g.N.Placed.word) (sym c.requires.picked.0)
           (subst (λ j. IsAllowed slots id y (bare v) (row_at y p w) p j) (sym c.requires.picked.1) (load_row_allows y slots id p w v c.requires.page c.requires.word))))),

@@ -26,10 +26,10 @@ store-requires g c =
     let slots = c.args.table.now.table_id.slots in
     let id = c.args.seat.now.id in
     let below = row_below y p k c.requires.page c.requires.word in (
-      c.requires.table,
-      omega (arith, below, c.requires.sized, c.row_at.ensures),
-      subst (λ x. IsAllowed slots id x me c.row_at.result n g.N.Placed.page g.N.Placed.word) (sym c.requires.keyed)
-          (subst (λ m. IsAllowed slots id y m c.row_at.result n g.N.Placed.page g.N.Placed.word) (sym c.requires.bare)
+      c.requires.seated.0,
+      omega (arith, below, c.requires.seated.2, c.row_at.ensures),
+      subst (λ x. IsAllowed slots id x me c.row_at.result n g.N.Placed.page g.N.Placed.word) (sym c.requires.seated.1)
+          (subst (λ m. IsAllowed slots id y m c.row_at.result n g.N.Placed.page g.N.Placed.word) (sym c.requires.seated.4)
           (subst (λ i. IsAllowed slots id y (bare v) i n g.N.Placed.page g.N.Placed.word) (sym c.row_at.ensures)
           (subst (λ q. IsAllowed slots id y (bare v) (row_at y p k) n q g.N.Placed.word) (sym c.requires.picked.0)
           (subst (λ j. IsAllowed slots id y (bare v) (row_at y p k) n p j) (sym c.requires.picked.1)
