@@ -9,7 +9,8 @@ use hc_base::Phys;
 impl<'a> Grip<'a> {
     /// Where the next claim of a page begins.
     pub fn hint(&self) -> Phys
-        ensures { HasPage self.now.layout result.0 }
+        ensures page { HasPage self.now.layout result.0 }
+        ensures hint { result.0 ≡ self.now.hint }
     {
         Phys(self.hint)
     }
@@ -17,6 +18,7 @@ impl<'a> Grip<'a> {
     /// The next claim of a page begins at this one.
     pub fn begin_at(&mut self, p: Phys)
         requires page { HasPage self.old.layout p.0 }
+        ensures hint { self.new.hint ≡ p.0 }
         ensures seat { self.new.seat.me ≡ self.old.seat.me }
         ensures same { IsSame self.old self.new }
     {
