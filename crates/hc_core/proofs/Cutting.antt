@@ -1,16 +1,25 @@
 -- What is so of the keys below a cut, and of a range that is cut there.
-use Rattle.std.proofs.Common.{◌≡◌, ◌∙◌, inr, ⊎_elim, refl, sym, ap, subst, ℕ, List}
+use Rattle.std.proofs.Common.{◌≡◌, ◌∙◌, inr, ⊎_elim, refl, sym, ap, subst, ℕ, List, Result, Ok, Err, IfOk}
 use Rattle.hc_range.specs.declared.range.Range.{Range}
 use Rattle.hc_range.specs.Order.{IsBelow}
 use Rattle.hc_range.specs.Ranges.{InRange}
 use Rattle.hc_range.proofs.ByteOrder.{at_most_trans, below_flip, empty_least}
 use Rattle.hc_range.proofs.Ends.{under_down}
 use Rattle.hc_core.specs.Cutting.{IsCutAt, IsUpto, stopped_by}
-use Rattle.hc_core.specs.Desk.{HasMet, StopsIn, end_of}
+use Rattle.hc_core.specs.Desk.{HasMet, StopsAt, StopsIn, end_of}
 use Rattle.hc_core.specs.declared.account.Entry.{Entry}
 use Rattle.hc_core.specs.declared.outcome.Met.{Met}
 use Rattle.hc_core.specs.declared.stop.Next.{Next}
 use Rattle.hc_core.specs.declared.stop.Next.TheVariants.{More, End}
+
+-- a desk that cuts may stop anywhere
+pub stops_anywhere : (next : Next) → StopsAt (λ _. Unit {0}) next
+stops_anywhere (More key) = tt
+stops_anywhere End = tt
+
+pub stops_anywhere_ok : {E : Type 0} (r : Result Next E) → IfOk r (StopsAt (λ _. Unit {0}))
+stops_anywhere_ok (Ok next) = stops_anywhere next
+stops_anywhere_ok (Err e) = tt
 
 module _ (from key : List ℕ) (range below : Range) (upto : IsUpto key below) (cut : IsCutAt from range key) where
   -- the key that a call begins at is below the cut

@@ -32,7 +32,7 @@ newest_keeps f [] keeps desks = desks
 newest_keeps f (t ∷ ts) keeps desks = keeps t desks.0 desks.1
 
 -- a fact of outcomes, kind by kind
-of_each : (P : Outcome → Type 0) → P Done → ((n : Cid) → P (Began n)) → ((n : Tid) → P (Drew n)) → ((p : Part) → P (Cells p)) → ((met : MetRecord) → P (Met met))
+pub of_each : (P : Outcome → Type 0) → P Done → ((n : Cid) → P (Began n)) → ((n : Tid) → P (Drew n)) → ((p : Part) → P (Cells p)) → ((met : MetRecord) → P (Met met))
     → ((n : Cid) → P (Proposed n)) → ((lost : LostRecord) → P (Lost lost)) → ((n : Cid) → P (Decided n)) → P NotNow → (outcome : Outcome) → P outcome
 of_each P done began drew cells met proposed lost decided not_now Done = done
 of_each P done began drew cells met proposed lost decided not_now (Began n) = began n

@@ -20,6 +20,7 @@ pub mod Matching
 pub mod Named
 pub mod OneAnswer
 pub mod Ordered
+pub mod Others
 pub mod ReadCells
 pub mod SoundRuns
 pub mod WriteSets

@@ -1,6 +1,7 @@
 -- What the calls of a desk ask and tell, in terms of accounts alone.
 use Rattle.std.specs.Prelude.{◌≡◌, ◌≢◌, ℕ, ◌≤◌, ◌⊎◌, true, Option, Some, None, Result, Ok, Err, List, [], ◌∷◌, ◌++◌, length}
 use Rattle.hc_base.specs.Entries.{entry_fits}
+use Rattle.hc_base.specs.declared.full.Full.{Full as FullOf}
 use Rattle.hc_base.specs.declared.numbers.Cid.{Cid}
 use Rattle.hc_range.specs.declared.range.Range.{Range}
 use Rattle.hc_range.specs.Order.{IsBelow}
@@ -71,6 +72,11 @@ abbrev pub StopsIn : List ℕ → Range → Next → Type 0
 StopsIn from range (More key) = IsBelow from key × InRange range key
 StopsIn from range End = Unit {0}
 
+-- where a call stops before the range's end it stops at one of these keys
+abbrev pub StopsAt : (List ℕ → Type 0) → Next → Type 0
+StopsAt stops (More key) = stops key
+StopsAt stops End = Unit {0}
+
 -- cells are in ascending order, each key in the part
 abbrev pub AreCellsIn : Range → List Cell → Type 0
 AreCellsIn part cells = AreAscending cells × ((cell : Cell) → Among cell cells → InRange part cell.key)
@@ -122,6 +128,11 @@ abbrev pub HasNoRoom : ℕ → ℕ → List Write → ReserveFault → List Entr
 HasNoRoom conn ord writes (Full full) before after =
     (after ≡ FoundFull conn full ∷ before) ⊎ ((id : ℕ) × (id ≢ 0) × (after ≡ FoundFull conn full ∷ with_room conn ord writes id before))
 HasNoRoom conn ord writes NoMemory before after = after ≡ before
+
+-- what was full is one of these things
+abbrev pub IsFullOf : (FullOf → Type 0) → ReserveFault → Type 0
+IsFullOf fills (Full full) = fills full
+IsFullOf fills NoMemory = Unit {0}
 
 -- how the account has what a put was answered
 abbrev pub put_outcome : {T : Type 0} → Result T MetRecord → Outcome

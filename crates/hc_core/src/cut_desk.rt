@@ -85,6 +85,10 @@ impl<D: Desk> Desk for CutDesk<D> {
 
     ghost most = { λ cut. D.most cut.desk };
 
+    ghost stops = { λ _ _. Unit {0} };
+
+    ghost fills = { λ cut. D.fills cut.desk };
+
     ghost later = { λ before after. D.later before.desk after.desk };
 
     fn conn(&self) -> u32 {

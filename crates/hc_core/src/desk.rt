@@ -1,11 +1,12 @@
 // One connection's access to a store.
 ghost use Rattle.std.specs.Prelude.{◌≡◌, ◌∷◌, ℕ, ◌<◌, ◌≤◌, List, true, false, IfOk, IfErr, OnOk, OnErr};
 ghost use Rattle.std.specs.Option.{option_copied};
+ghost use Rattle.hc_base.specs.declared.full.Full.{Full};
 ghost use Rattle.hc_range.specs.Ranges.{InRange};
 ghost use Rattle.hc_core.specs.Account.{IsIdle, txns};
 ghost use Rattle.hc_core.specs.Diary.{entry_of};
 ghost use Rattle.hc_core.specs.Running.{greatest_ord};
-ghost use Rattle.hc_core.specs.Desk.{AreAscendingWrites, EachFits, GoesOn, HasChecked, HasMet, HasNoRoom, HasRead, HasReadLast, HasReadNone, HasReadNothing, HasReserved, IsProposing, IsReading, MayDecideNow, MayEndNow, MayProposeNow, MayPutNow, MayUnputNow, NamesOther, Proposes, StopsIn, decide_outcome, end_of, put_outcome};
+ghost use Rattle.hc_core.specs.Desk.{AreAscendingWrites, EachFits, GoesOn, HasChecked, HasMet, HasNoRoom, HasRead, HasReadLast, HasReadNone, HasReadNothing, HasReserved, IsFullOf, IsProposing, IsReading, MayDecideNow, MayEndNow, MayProposeNow, MayPutNow, MayUnputNow, NamesOther, Proposes, StopsAt, StopsIn, decide_outcome, end_of, put_outcome};
 ghost use Rattle.hc_core.specs.declared.account.Entry.{Entry};
 ghost use Rattle.hc_core.specs.declared.event.Event.TheVariants.{Begin, Put, Propose, Decide, Unput, End};
 ghost use Rattle.hc_core.specs.declared.outcome.Outcome.TheVariants.{Began, Done, Proposed};
@@ -34,6 +35,12 @@ pub trait Desk {
     /// The greatest commit number that its store can have.
     ghost most: { Self → ℕ };
 
+    /// At which keys a read or a check may stop before its range's end.
+    ghost stops: { Self → List ℕ → Type 0 };
+
+    /// What of its store a reservation may find full.
+    ghost fills: { Self → Full → Type 0 };
+
     /// From an earlier moment of the desk to a later one.
     ghost later: { Self → Self → Type 0 };
 
@@ -60,6 +67,7 @@ pub trait Desk {
         requires from { InRange range.now from.now }
         ensures entry { IfOk result (λ next. HasRead (conn self.old) from.now (end_of range.now next) (account self.old) (account self.new) out.old.cells out.new.cells) }
         ensures stop { IfOk result (λ next. StopsIn from.now range.now next) }
+        ensures more { IfOk result (StopsAt (stops self.old)) }
         ensures no_memory { OnErr result (HasReadNothing (account self.old) (account self.new) out.old.cells out.new.cells) }
         ensures on { GoesOn conn most seen later self.old self.new };
 
@@ -81,6 +89,7 @@ pub trait Desk {
         requires fit { EachFits writes.now }
         ensures entry { OnOk result (HasReserved (conn self.old) ord writes.now (account self.old) (account self.new)) }
         ensures no_room { IfErr result (λ fault. HasNoRoom (conn self.old) ord writes.now fault (account self.old) (account self.new)) }
+        ensures full { IfErr result (IsFullOf (fills self.old)) }
         ensures on { GoesOn conn most seen later self.old self.new };
 
     /// Puts a write for which there is room. It is refused where the key's latest version is another's and undecided, or
@@ -105,6 +114,7 @@ pub trait Desk {
         requires from { InRange range.now from.now }
         ensures entry { IfOk result (λ next. HasChecked (conn self.old) from.now (end_of range.now next) (account self.old) (account self.new)) }
         ensures stop { IfOk result (λ next. StopsIn from.now range.now next) }
+        ensures more { IfOk result (StopsAt (stops self.old)) }
         ensures met { IfErr result (λ met. HasMet (conn self.old) from.now range.now met (account self.old) (account self.new)) }
         ensures on { GoesOn conn most seen later self.old self.new };
 

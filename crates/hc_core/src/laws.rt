@@ -2,6 +2,7 @@
 // The lemmas in proofs/Kept say the same event by event, of any log and any transactions by connection, and take
 // the facts of an event in place of this machine's answer: they are what another machine can cite.
 ghost use Rattle.hc_core.specs.Laws.{AfterEveryRun, AnEventHasAnAnswer, AnswersAreOne, EachEventKeepsSoundness, EachListOfEventsHasOneRun, FirstCommitterWins, NewIsSound, ReadsAreSnapshots, RefusalsNameWriters, VersionsBeginWithTheLatest};
+ghost use Rattle.hc_core.specs.ListDesk.{LeavesOthers};
 ghost use Rattle.hc_core.specs.Sound.{IsSound};
 
 /// A new machine is sound, for any number of connections.
@@ -45,4 +46,10 @@ pub fn every_run_is_sound()
 /// table asks for the latest of them alone.
 pub fn the_versions_of_a_key_begin_with_the_latest()
     ensures { VersionsBeginWithTheLatest }
+{}
+
+/// Steps of one connection leave the accounts of the others. So desks of several connections take turns at one machine,
+/// and each finds its account as it left it.
+pub fn a_connection_leaves_the_others()
+    ensures { LeavesOthers }
 {}

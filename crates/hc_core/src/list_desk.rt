@@ -7,7 +7,7 @@ use hc_range::Range;
 use std::alloc::Global;
 
 /// A connection of the transaction machine, counted from 0. Where its open transaction has drawn an id, a desk drew it.
-/// It answers neither `More` nor `Full`.
+/// It answers neither `More` nor `Full`, and stays at its core.
 #[derive(Drop)]
 pub struct ListDesk<'a> {
     pub core: &'a mut Core,
@@ -28,7 +28,11 @@ impl<'a> Desk for ListDesk<'a> {
 
     ghost most = { λ desk. 2 ^ 32 - 1 };
 
-    ghost later = { λ before after. IsLaterDesk before.conn before.core.now after.conn after.core.now };
+    ghost stops = { λ _ _. ⊥ };
+
+    ghost fills = { λ _ _. ⊥ };
+
+    ghost later = { λ before after. IsLaterDesk before.conn before.core.ghost_name before.core.now after.conn after.core.ghost_name after.core.now };
 
     fn conn(&self) -> u32 {
         self.conn
@@ -97,7 +101,7 @@ impl<'a> Desk for ListDesk<'a> {
         self.core.end(self.conn);
     }
 
-    ghost later_refl = { λ d. later_refl d.conn d.core.now };
+    ghost later_refl = { λ d. later_refl d.conn d.core.ghost_name d.core.now };
 
-    ghost later_trans = { λ d e f one two. later_trans d.conn e.conn f.conn d.core.now e.core.now f.core.now one two };
+    ghost later_trans = { λ d e f one two. later_trans d.conn e.conn f.conn d.core.ghost_name e.core.ghost_name f.core.ghost_name d.core.now e.core.now f.core.now one two };
 }

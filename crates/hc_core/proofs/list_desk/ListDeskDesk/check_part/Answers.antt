@@ -23,9 +23,9 @@ returns-in-Err-clause-met c =
 pub returns-in-Ok-clause-on : goal.returns-in-Ok-clause-on
 returns-in-Ok-clause-on c =
     let g = went_on c.args.self.now.core.now _ c.args.self.now.conn (Check c.args.self.now.conn c.args.from.now c.args.range.now.hi) _ refl c.in-Ok.ensures.answer c.in-Ok.ensures.after in
-    (refl, refl, g.0, (refl, g.1))
+    (refl, refl, g.0, (refl, refl, g.1))
 
 pub returns-in-Err-clause-on : goal.returns-in-Err-clause-on
 returns-in-Err-clause-on c =
     let g = went_on c.args.self.now.core.now _ c.args.self.now.conn (Check c.args.self.now.conn c.args.from.now c.args.range.now.hi) _ refl c.in-Err.ensures.answer c.in-Err.ensures.after in
-    (refl, refl, g.0, (refl, g.1))
+    (refl, refl, g.0, (refl, refl, g.1))

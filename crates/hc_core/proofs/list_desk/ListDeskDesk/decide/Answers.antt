@@ -13,4 +13,4 @@ returns-clause-lost c =
 pub returns-clause-on : goal.returns-clause-on
 returns-clause-on c =
     let g = went_on c.args.self.now.core.now _ c.args.self.now.conn (Decide c.args.self.now.conn) _ refl c.settle.ensures.answer c.settle.ensures.after in
-    (refl, refl, g.0, (refl, g.1))
+    (refl, refl, g.0, (refl, refl, g.1))

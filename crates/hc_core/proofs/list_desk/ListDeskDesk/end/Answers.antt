@@ -6,4 +6,4 @@ use Rattle.hc_core.proofs.list_desk.ListDeskDesk.end.Goals as goal
 pub returns-clause-on : goal.returns-clause-on
 returns-clause-on c =
     let g = went_on c.args.self.now.core.now _ c.args.self.now.conn (End c.args.self.now.conn) _ refl c.end.ensures.answer c.end.ensures.after in
-    (refl, refl, g.0, (refl, g.1))
+    (refl, refl, g.0, (refl, refl, g.1))

@@ -13,4 +13,4 @@ returns-clause-met c = put_met c.args.self.now.core.now c.args.self.now.conn c.a
 pub returns-clause-on : goal.returns-clause-on
 returns-clause-on c =
     let g = went_on c.args.self.now.core.now _ c.args.self.now.conn (Put c.args.self.now.conn c.args.key.now (option_copied c.args.rec)) _ refl c.put_reserved.ensures.answer c.put_reserved.ensures.after in
-    (refl, refl, g.0, (refl, g.1))
+    (refl, refl, g.0, (refl, refl, g.1))

@@ -20,4 +20,4 @@ pub returns-clause-on : goal.returns-clause-on
 returns-clause-on c =
     let r = c.in_ok-read_part.ensures.read in
     let g = went_on c.args.self.now.core.now _ c.args.self.now.conn (Read c.args.self.now.conn c.args.from.now c.args.range.now.hi) _ refl r.1 r.2 in
-    (refl, refl, g.0, (refl, g.1))
+    (refl, refl, g.0, (refl, refl, g.1))

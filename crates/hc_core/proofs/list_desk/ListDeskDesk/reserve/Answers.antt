@@ -10,4 +10,4 @@ reserve-requires-clause-short c = λ w there. short_key _ _ (c.requires.fit w th
 pub returns-in-Ok-clause-on : goal.returns-in-Ok-clause-on
 returns-in-Ok-clause-on c =
     let g = room_on c.args.self.now.conn c.args.ord c.args.writes.now c.args.self.now.core.now _ c.in-Ok.ensures.reserved in
-    (refl, refl, g.0, (refl, g.1))
+    (refl, refl, g.0, (refl, refl, g.1))
