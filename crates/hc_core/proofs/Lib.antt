@@ -1,4 +1,6 @@
 pub mod Agreeing
+pub mod BaseCells
+pub mod CellEntries
 pub mod CellOrder
 pub mod Changed
 pub mod Conns

@@ -111,7 +111,7 @@ with_exact range cells (w ∷ ws) ascending one k r =
     )
 
 -- one more entry
-cells_step : (range : Range) (cells : List Cell) (commits : List Commit) (k : ℕ) → k < length commits
+pub cells_step : (range : Range) (cells : List Cell) (commits : List Commit) (k : ℕ) → k < length commits
     → cells_of range cells (take (suc k) commits) ≡ cells_with range (cells_of range cells (take k commits)) (writes_at commits k)
 cells_step range cells [] k within = absurd (omega arith)
 cells_step range cells (commit ∷ commits) zero within = refl
@@ -155,12 +155,12 @@ pub cells_first : (of : ℕ → List Txn) (part : Range) → AreCellsAfter of 0 
 cells_first of part = record { ascending = tt; exact = λ key rec. (λ there. absurd there, λ p. absurd (p.1.2.4 (omega (arith, p.1.1)))) }
 
 module _ {size : ℕ} {log : ℕ → ℕ} {of : ℕ → List Txn} (s : AreSound size log of) (commits : List Commit) (are : AreCommits of 1 commits) (long : length commits ≡ size) where
-  one_each : (k : ℕ) → k < length commits → HasOneEach (writes_at commits k)
+  pub one_each : (k : ℕ) → k < length commits → HasOneEach (writes_at commits k)
   one_each k within key a b a_there b_there =
       let w = writer_at of commits 1 k are within in
       once_one w.1.write_set (s.each w.0 w.1 w.2).writes.once key a b ((w.4 (record { key = key; rec = a })).0 a_there) ((w.4 (record { key = key; rec = b })).0 b_there)
 
-  entry_puts : (k : ℕ) → k < length commits → (key : List ℕ) (rec : Option (List ℕ))
+  pub entry_puts : (k : ℕ) → k < length commits → (key : List ℕ) (rec : Option (List ℕ))
       → PutAt of (k + 1) key rec ↔ Among (record { key = key; rec = rec }) (writes_at commits k)
   entry_puts k within key rec =
       let e = put_at_place s commits are long k key rec in (λ put. (e.0 put).1, λ there. e.1 (within, there))

@@ -8,6 +8,8 @@
 #![tactic(auto)]
 
 mod account;
+mod base;
+mod cell_map;
 mod cells;
 mod commit;
 mod conn;

@@ -13,14 +13,14 @@ ghost use Rattle.hc_core.specs.declared.account.Entry.TheVariants.{Reserved};
 ghost use Rattle.hc_core.specs.declared.outcome.Outcome.TheVariants.{Done, Cells, Met as MetAnswer};
 ghost use Rattle.hc_core.specs.declared.event.Event.TheVariants.{Begin, Draw, Read, Put, Propose, Check, Decide, Unput, End, Purge};
 
+use crate::base::Base;
 use crate::commit::Commit;
 use crate::conn::Conn;
 use crate::copying::{copy_part, copy_writes, lent, push_all};
 use crate::enabled::{may_decide, may_end, may_put};
 use crate::log::{found_between, met_above, newest_tombstone};
-use crate::reading::cells_after;
 use crate::running::Running;
-use crate::writers::{are_above, has_writer, open_writer};
+use crate::writers::{are_above, has_writer, least_snapshot, open_writer};
 use crate::{Cell, Event, Lost, Met, NoMemory, Outcome, Part, Write};
 use hc_base::Cid;
 use hc_range::{Bytes, Range};
@@ -35,11 +35,13 @@ pub struct Core {
     alloc: Global,
     drawn: u32,
     log: Vec<Commit>,
+    base: Base,
     conns: Vec<Conn>,
 }
 
 impl Model for Core {
     ghost use Rattle.std.specs.Prelude.{vec_capacity};
+    ghost use Rattle.hc_core.specs.Base.{IsBased};
     ghost use Rattle.hc_core.specs.Kept.{IsKept, machine_of};
     ghost use Rattle.hc_core.specs.Machine.{Machine};
 
@@ -47,7 +49,7 @@ impl Model for Core {
 
     ghost view = { λ core. machine_of core.drawn core.log.items core.conns.items };
 
-    ghost invariant = { λ core. IsKept core.drawn core.log.items (vec_capacity core.log) core.conns.items };
+    ghost invariant = { λ core. IsKept core.drawn core.log.items (vec_capacity core.log) core.conns.items × IsBased core.base core.log.items };
 }
 
 impl Core {
@@ -61,6 +63,7 @@ impl Core {
             alloc,
             drawn: 0,
             log: Vec::new(alloc),
+            base: Base::new(alloc),
             conns: new_conns(alloc, conns)?,
         })
     }
@@ -256,7 +259,8 @@ impl Core {
         ensures short { IfOk result (λ cells. HaveShortKeys cells.items) }
     {
         let snapshot = self.opened(conn).snapshot as usize;
-        cells_after(alloc, &self.log[..snapshot], range)
+        self.base
+            .cells_at(alloc, self.log.as_slice(), snapshot, range)
     }
 
     // Enters a read of a range, whose cells are given.
@@ -267,7 +271,16 @@ impl Core {
         ensures no_memory { OnErr result (self.new ≡ self.old) }
     {
         self.conns[conn as usize].read(conn, range, cells)?;
+        self.go_on();
         Ok(())
+    }
+
+    // Brings the base up to what each open transaction sees, so that reads go over the entries after that alone.
+    fn go_on(&mut self)
+        ensures { self.new ≡ self.old }
+    {
+        let seen = least_snapshot(self.conns.as_slice(), self.log.len());
+        self.base.go_on(self.alloc, self.log.as_slice(), seen);
     }
 
     /// Adds the cells of the snapshot in a part to `out`. Out of memory nothing has happened, but some of the cells may be

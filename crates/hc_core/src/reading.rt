@@ -78,11 +78,15 @@ fn set_cells(
     Ok(())
 }
 
-/// The cells of a range after the entries of the log, in ascending order of keys.
-pub fn cells_after(alloc: Global, log: &[Commit], range: &Range) -> Result<Vec<Cell>, NoMemory>
-    ensures { IfOk result (λ cells. cells.items ≡ cells_of range.now [] log.now) }
+/// Cells of a range with what entries of the log put there, in ascending order of keys.
+pub fn cells_over(
+    alloc: Global,
+    mut cells: Vec<Cell>,
+    log: &[Commit],
+    range: &Range,
+) -> Result<Vec<Cell>, NoMemory>
+    ensures { IfOk result (λ found. found.items ≡ cells_of range.now cells.items log.now) }
 {
-    let mut cells = Vec::new(alloc);
     for commit in log {
         set_cells(alloc, &mut cells, commit.writes.as_slice(), range)?;
     }

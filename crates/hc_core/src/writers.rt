@@ -84,3 +84,16 @@ pub fn are_above(conns: &[Conn], place: usize) -> bool
     }
     true
 }
+
+/// The least snapshot of an open transaction, and a number at most.
+pub fn least_snapshot(conns: &[Conn], most: usize) -> usize
+    ensures { result ≤ most }
+{
+    let mut least = most;
+    for each in conns {
+        if let Some(running) = each.running() {
+            least = least.min(running.snapshot as usize);
+        }
+    }
+    least
+}

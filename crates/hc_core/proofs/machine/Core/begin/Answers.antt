@@ -14,18 +14,20 @@ overflow_cast-snapshot c =
       arith,
       c.len-snapshot.ensures,
       log_length c.self.inside.log,
-      log_within _ c.self.invariant.sound,
-      c.self.invariant.bounded,
+      log_within _ c.self.invariant.0.sound,
+      c.self.invariant.0.bounded,
     ) in search (rules, short)
 
 -- the transaction begins at the log's end
 pub invariant_of-self : goal.invariant_of-self
 invariant_of-self c =
-    let within : c.args.conn < length c.self.inside.conns.items = omega (arith, c.if-index-len.false, c.len.ensures, c.self.inside.conns.ok.0) in
-    kept_begun _ _ _ _ _ _ _ _ (entry_is _ _ _ _ _ _ _ _ c.begin.ensures.account c.index_mut.ensures.value within refl) refl
-    _ _ c.self.invariant
-    (inl (
-      (within, subst (λ m. IsIdle (txns_of m c.args.conn)) (sym c.self.view_is) (none_idle _ _ _ c.open.ensures (sym c.is_some.ensures ∙ c.if-is_some.false))),
-      ap (λ n. Began (record { 0 = n })) (c.len-snapshot.ensures ∙ sym (log_length c.self.inside.log)),
-    ))
-    within refl (λ ts. refl)
+    let within : c.args.conn < length c.self.inside.conns.items = omega (arith, c.if-index-len.false, c.len.ensures, c.self.inside.conns.ok.0) in (
+      kept_begun _ _ _ _ _ _ _ _ (entry_is _ _ _ _ _ _ _ _ c.begin.ensures.account c.index_mut.ensures.value within refl) refl
+          _ _ c.self.invariant.0
+          (inl (
+            (within, subst (λ m. IsIdle (txns_of m c.args.conn)) (sym c.self.view_is) (none_idle _ _ _ c.open.ensures (sym c.is_some.ensures ∙ c.if-is_some.false))),
+            ap (λ n. Began (record { 0 = n })) (c.len-snapshot.ensures ∙ sym (log_length c.self.inside.log)),
+          ))
+          within refl (λ ts. refl),
+      c.self.invariant.1,
+    )

@@ -20,16 +20,20 @@ check_unkept-requires c = record { «open» = there_open _ _ c.args.conn _ _ _ _
 pub invariant_of-self : goal.invariant_of-self
 invariant_of-self c =
     let m = machine_of c.self.inside.drawn c.self.inside.log.items c.self.inside.conns.items in
-    let open_now = held_open m _ c.args.conn (λ t. (t.proposed ≢ 0) × (t.weight ≢ None)) c.self.view_is c.requires.proposing in
-    kept_event _ _ _ _ c.args.conn _ _ _ (Check c.args.conn c.args.from.now c.args.upto.now) (Met c.in-Some.met) (after_check (part_of c.args.from.now c.args.upto.now) (Met c.in-Some.met)) c.self.invariant c.refuse_check.ensures c.index_mut.ensures.value
-    (subst (λ (n : Machine). Answers n (Check c.args.conn c.args.from.now c.args.upto.now) (Met c.in-Some.met)) (sym c.self.view_is) c.in-Some.ensures)
-    refl (λ ts. refl) (when_map _ _ _ (λ t h. settles_same t _ refl refl refl refl) open_now)
+    let open_now = held_open m _ c.args.conn (λ t. (t.proposed ≢ 0) × (t.weight ≢ None)) c.self.view_is c.requires.proposing in (
+      kept_event _ _ _ _ c.args.conn _ _ _ (Check c.args.conn c.args.from.now c.args.upto.now) (Met c.in-Some.met) (after_check (part_of c.args.from.now c.args.upto.now) (Met c.in-Some.met)) c.self.invariant.0 c.refuse_check.ensures c.index_mut.ensures.value
+          (subst (λ (n : Machine). Answers n (Check c.args.conn c.args.from.now c.args.upto.now) (Met c.in-Some.met)) (sym c.self.view_is) c.in-Some.ensures)
+          refl (λ ts. refl) (when_map _ _ _ (λ t h. settles_same t _ refl refl refl refl) open_now),
+      c.self.invariant.1,
+    )
 
 -- the check is entered
 pub invariant_of-self-2 : goal.invariant_of-self-2
 invariant_of-self-2 c =
     let m = machine_of c.self.inside.drawn c.self.inside.log.items c.self.inside.conns.items in
-    let open_now = held_open m _ c.args.conn (λ t. (t.proposed ≢ 0) × (t.weight ≢ None)) c.self.view_is c.requires.proposing in
-    kept_event _ _ _ _ c.args.conn _ _ _ (Check c.args.conn c.args.from.now c.args.upto.now) (Done) (after_check (part_of c.args.from.now c.args.upto.now) (Done)) c.self.invariant c.check_unkept.ensures c.index_mut-2.ensures.value
-    (subst (λ (n : Machine). Answers n (Check c.args.conn c.args.from.now c.args.upto.now) (Done)) (sym c.self.view_is) c.in_default.ensures)
-    refl (λ ts. refl) (when_map _ _ _ (λ t h. settles_same t _ refl refl refl refl) open_now)
+    let open_now = held_open m _ c.args.conn (λ t. (t.proposed ≢ 0) × (t.weight ≢ None)) c.self.view_is c.requires.proposing in (
+      kept_event _ _ _ _ c.args.conn _ _ _ (Check c.args.conn c.args.from.now c.args.upto.now) (Done) (after_check (part_of c.args.from.now c.args.upto.now) (Done)) c.self.invariant.0 c.check_unkept.ensures c.index_mut-2.ensures.value
+          (subst (λ (n : Machine). Answers n (Check c.args.conn c.args.from.now c.args.upto.now) (Done)) (sym c.self.view_is) c.in_default.ensures)
+          refl (λ ts. refl) (when_map _ _ _ (λ t h. settles_same t _ refl refl refl refl) open_now),
+      c.self.invariant.1,
+    )

@@ -29,7 +29,7 @@ returns-then-ord-last_ord-clause-answer c =
 
 -- the log is no longer than the ids drawn
 pub overflow_sub-more : goal.overflow_sub-more
-overflow_sub-more c = omega (arith, c.len.ensures, log_length c.self.inside.log, log_within _ c.self.invariant.sound)
+overflow_sub-more c = omega (arith, c.len.ensures, log_length c.self.inside.log, log_within _ c.self.invariant.0.sound)
 
 -- the id is new, and there is room for one more entry
 pub invariant_of-self-2 : goal.invariant_of-self-2
@@ -39,20 +39,23 @@ invariant_of-self-2 c =
     let within = open_in_range m c.args.conn _ found in
     let o = opened (txns_of m c.args.conn) (Matches c.in-Some.running.now) found in
     let none : o.t.id ≡ 0 = sym (o.holds).id ∙ c.if-running-ne0.false in
-    let undecided = ((newest_sound c.self.invariant.sound.sound c.args.conn o.t o.rest o.is).numbers.undrawn none).0 in
+    let undecided = ((newest_sound c.self.invariant.0.sound.sound c.args.conn o.t o.rest o.is).numbers.undrawn none).0 in
     let settles = settles_drawn o.t (c.self.inside.drawn + 1) c.args.ord undecided in
     let enabled = draw_enabled m c.args.conn c.args.ord c.last_ord.result c.in-Some.running.now _ _ found c.if-running-ne0.false
-    c.index.ensures c.last_ord.ensures c.if-ord-last_ord.false c.self.invariant.bounded c.if-self.false in
-    rw c.in_ok-reserve.ensures.items (kept_entered _ _ _ _ _ _ _ _
-    (entry_is _ _ _ _ _ _ _ _ c.draw.ensures.account c.index_mut.ensures.value within refl) refl
-    _ _ (c.self.inside.drawn + 1) c.self.inside.log.items (record o.t { id = c.self.inside.drawn + 1; ord = c.args.ord } ∷ o.rest) c.self.invariant
-    (inl (enabled, refl)) within refl
-    (ap (newest_changed (after_draw c.args.ord (Drew (record { 0 = c.self.inside.drawn + 1 })))) o.is)
-    (commits_changed (txns_of m) c.args.conn o.t _ o.rest 1 c.self.inside.log.items o.is settles (omega arith) c.self.invariant.logged)
-    (short_changed _ _ _ _ _ _ _ _ (entry_is _ _ _ _ _ _ _ _ c.draw.ensures.account c.index_mut.ensures.value within refl) refl
-    _ o.t _ o.rest c.self.invariant o.is settles)
-    (omega (arith, c.self.invariant.bounded, c.if-self.false))
-    (omega (arith, c.in_ok-reserve.ensures.ok, c.in_ok-reserve.ensures.len, c.len.ensures, log_length c.self.inside.log, log_within _ c.self.invariant.sound)))
+    c.index.ensures c.last_ord.ensures c.if-ord-last_ord.false c.self.invariant.0.bounded c.if-self.false in
+    rw c.in_ok-reserve.ensures.items (
+      kept_entered _ _ _ _ _ _ _ _
+          (entry_is _ _ _ _ _ _ _ _ c.draw.ensures.account c.index_mut.ensures.value within refl) refl
+          _ _ (c.self.inside.drawn + 1) c.self.inside.log.items (record o.t { id = c.self.inside.drawn + 1; ord = c.args.ord } ∷ o.rest) c.self.invariant.0
+          (inl (enabled, refl)) within refl
+          (ap (newest_changed (after_draw c.args.ord (Drew (record { 0 = c.self.inside.drawn + 1 })))) o.is)
+          (commits_changed (txns_of m) c.args.conn o.t _ o.rest 1 c.self.inside.log.items o.is settles (omega arith) c.self.invariant.0.logged)
+          (short_changed _ _ _ _ _ _ _ _ (entry_is _ _ _ _ _ _ _ _ c.draw.ensures.account c.index_mut.ensures.value within refl) refl
+          _ o.t _ o.rest c.self.invariant.0 o.is settles)
+          (omega (arith, c.self.invariant.0.bounded, c.if-self.false))
+          (omega (arith, c.in_ok-reserve.ensures.ok, c.in_ok-reserve.ensures.len, c.len.ensures, log_length c.self.inside.log, log_within _ c.self.invariant.0.sound)),
+      c.self.invariant.1,
+    )
 
 pub returns-clause-answer : goal.returns-clause-answer
 returns-clause-answer c =
@@ -61,6 +64,6 @@ returns-clause-answer c =
     subst (λ (n : Machine). Answers n (Draw c.args.conn c.args.ord) c.draw.result) c.self.view_is
     (inl (
       draw_enabled m c.args.conn c.args.ord c.last_ord.result c.in-Some.running.now _ _ found c.if-running-ne0.false
-          c.index.ensures c.last_ord.ensures c.if-ord-last_ord.false c.self.invariant.bounded c.if-self.false,
+          c.index.ensures c.last_ord.ensures c.if-ord-last_ord.false c.self.invariant.0.bounded c.if-self.false,
       c.draw.ensures.outcome,
     ))

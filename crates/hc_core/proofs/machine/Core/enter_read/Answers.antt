@@ -14,14 +14,16 @@ read-requires c = record { «open» = there_open _ _ c.args.conn _ _ _ _ c.self.
 
 -- nothing was read
 pub invariant_of-self : goal.invariant_of-self
-invariant_of-self c = kept_same _ _ _ _ _ _ _ _ c.self.invariant c.in_err-read.ensures.no_memory c.index_mut.ensures.value
+invariant_of-self c = (kept_same _ _ _ _ _ _ _ _ c.self.invariant.0 c.in_err-read.ensures.no_memory c.index_mut.ensures.value, c.self.invariant.1)
 
 -- the read is entered
 pub invariant_of-self-2 : goal.invariant_of-self-2
 invariant_of-self-2 c =
     let m = machine_of c.self.inside.drawn c.self.inside.log.items c.self.inside.conns.items in
-    let reading = held_open m _ c.args.conn (λ t. t.id ≡ 0) c.self.view_is c.requires.reading in
-    kept_event _ _ _ _ c.args.conn _ _ _ (Read c.args.conn c.args.range.now.lo c.args.range.now.hi) (Cells (record { cells = c.args.cells.now }))
-    (after_read c.args.range.now (Cells (record { cells = c.args.cells.now }))) c.self.invariant c.in_ok-read.ensures.account c.index_mut.ensures.value
-    (read_is m c.args.conn c.args.range.now c.args.cells.now reading (subst (λ (n : Machine). AreSnapshotCells n c.args.conn c.args.range.now c.args.cells.now) (sym c.self.view_is) c.requires.cells))
-    refl (λ ts. refl) (when_map _ _ _ (λ t h. settles_same t _ refl refl refl refl) reading)
+    let reading = held_open m _ c.args.conn (λ t. t.id ≡ 0) c.self.view_is c.requires.reading in (
+      kept_event _ _ _ _ c.args.conn _ _ _ (Read c.args.conn c.args.range.now.lo c.args.range.now.hi) (Cells (record { cells = c.args.cells.now }))
+          (after_read c.args.range.now (Cells (record { cells = c.args.cells.now }))) c.self.invariant.0 c.in_ok-read.ensures.account c.index_mut.ensures.value
+          (read_is m c.args.conn c.args.range.now c.args.cells.now reading (subst (λ (n : Machine). AreSnapshotCells n c.args.conn c.args.range.now c.args.cells.now) (sym c.self.view_is) c.requires.cells))
+          refl (λ ts. refl) (when_map _ _ _ (λ t h. settles_same t _ refl refl refl refl) reading),
+      c.self.invariant.1,
+    )

@@ -29,7 +29,7 @@ returns c =
     → (j : ℕ) × (u : Txn) × IsInTheWay (txns_of n) i c.args.snapshot c.args.key.now j u × Names met j u c.args.key.now in
     subst (λ (n : Machine). MatchOption c.met_above.result (Free n) (Meets n)) c.self.view_is
     (match_map _ _ (Free m) _ (Meets m) c.met_above.ensures
-    (λ none i. put_free c.self.invariant.sound.sound c.self.inside.log.items c.self.invariant.logged (sym (length-map c.self.inside.log.items (λ (commit : Commit). commit.tid))) c.args.key.now none_open i c.args.snapshot
+    (λ none i. put_free c.self.invariant.0.sound.sound c.self.inside.log.items c.self.invariant.0.logged (sym (length-map c.self.inside.log.items (λ (commit : Commit). commit.tid))) c.args.key.now none_open i c.args.snapshot
     (subst (IsNoneAbove c.args.snapshot c.args.key.now) c.as_slice-2.ensures.value none))
-    (λ met h i closed. put_met c.self.invariant.sound.sound c.self.inside.log.items c.self.invariant.logged (sym (length-map c.self.inside.log.items (λ (commit : Commit). commit.tid))) c.args.key.now none_open i c.args.snapshot met
+    (λ met h i closed. put_met c.self.invariant.0.sound.sound c.self.inside.log.items c.self.invariant.0.logged (sym (length-map c.self.inside.log.items (λ (commit : Commit). commit.tid))) c.args.key.now none_open i c.args.snapshot met
     (subst (λ (log : List Commit). IsMetAbove c.args.snapshot c.args.key.now log met) c.as_slice-2.ensures.value h)))

@@ -12,8 +12,8 @@ short_log c = omega (
   arith,
   c.len.ensures,
   log_length c.self.inside.log,
-  c.self.invariant.bounded,
-  number_bounded _ c.args.conn c.self.invariant.sound c.self.invariant.bounded
+  c.self.invariant.0.bounded,
+  number_bounded _ c.args.conn c.self.invariant.0.sound c.self.invariant.0.bounded
       (held_open _ _ c.args.conn (λ t. (t.id ≢ 0) × (t.place ≡ 0)) c.self.view_is (c.may_propose.ensures.0 c.if-not-may_propose.false)),
 )
 
@@ -27,9 +27,11 @@ overflow_add-number c = search (rules, short_log c)
 pub invariant_of-self : goal.invariant_of-self
 invariant_of-self c =
     let open_now = held_open _ _ c.args.conn (λ t. (t.id ≢ 0) × (t.place ≡ 0)) c.self.view_is (c.may_propose.ensures.0 c.if-not-may_propose.false) in
-    let within = open_in_range (machine_of c.self.inside.drawn c.self.inside.log.items c.self.inside.conns.items) c.args.conn _ open_now in
-    kept_changed _ _ _ _ _ _ _ _ (entry_is _ _ _ _ _ _ _ _ c.propose.ensures.account c.index_mut.ensures.value within refl) refl
-    _ (after_propose (Proposed (record { 0 = c.len.result + 1 }))) c.self.invariant
-    (inl (open_now, ap (λ n. Proposed (record { 0 = n + 1 })) (c.len.ensures ∙ sym (log_length c.self.inside.log))))
-    refl (λ ts. refl)
-    (when_map _ _ _ (λ t h. settles_same t _ refl refl refl refl) open_now)
+    let within = open_in_range (machine_of c.self.inside.drawn c.self.inside.log.items c.self.inside.conns.items) c.args.conn _ open_now in (
+      kept_changed _ _ _ _ _ _ _ _ (entry_is _ _ _ _ _ _ _ _ c.propose.ensures.account c.index_mut.ensures.value within refl) refl
+          _ (after_propose (Proposed (record { 0 = c.len.result + 1 }))) c.self.invariant.0
+          (inl (open_now, ap (λ n. Proposed (record { 0 = n + 1 })) (c.len.ensures ∙ sym (log_length c.self.inside.log))))
+          refl (λ ts. refl)
+          (when_map _ _ _ (λ t h. settles_same t _ refl refl refl refl) open_now),
+      c.self.invariant.1,
+    )

@@ -18,14 +18,14 @@ returns-then-has_writer c =
     let m = machine_of c.self.inside.drawn c.self.inside.log.items c.self.inside.conns.items in
     let writer = c.has_writer.ensures.yes c.if-has_writer.true in
     let there = subst (λ (conns : List (List Entry)). WhenOpen (txns (get_or conns writer.0 [])) (λ t. (t.place ≡ 0) × HasWritten t c.args.key.now)) c.as_slice.ensures.value writer.1 in
-    inr (subst (λ (n : Machine). IsForgettable (txns_of n) c.args.key.now → ⊥) c.self.view_is (λ f. forgettable_closed c.self.invariant.sound.sound c.self.inside.log.items c.self.invariant.logged (sym (length-map c.self.inside.log.items (λ (commit : Commit). commit.tid))) c.args.key.now f writer.0 there), refl)
+    inr (subst (λ (n : Machine). IsForgettable (txns_of n) c.args.key.now → ⊥) c.self.view_is (λ f. forgettable_closed c.self.invariant.0.sound.sound c.self.inside.log.items c.self.invariant.0.logged (sym (length-map c.self.inside.log.items (λ (commit : Commit). commit.tid))) c.args.key.now f writer.0 there), refl)
 
 -- the newest commit of the key is no tombstone
 pub returns-in_default : goal.returns-in_default
 returns-in_default c =
     let m = machine_of c.self.inside.drawn c.self.inside.log.items c.self.inside.conns.items in
     let none = subst (λ (log : List Commit). HasNoTombstone c.args.key.now log) c.as_slice-2.ensures.value c.in_default.ensures in
-    inr (subst (λ (n : Machine). IsForgettable (txns_of n) c.args.key.now → ⊥) c.self.view_is (λ f. no_tombstone c.self.invariant.sound.sound c.self.inside.log.items c.self.invariant.logged (sym (length-map c.self.inside.log.items (λ (commit : Commit). commit.tid))) c.args.key.now none f), refl)
+    inr (subst (λ (n : Machine). IsForgettable (txns_of n) c.args.key.now → ⊥) c.self.view_is (λ f. no_tombstone c.self.invariant.0.sound.sound c.self.inside.log.items c.self.invariant.0.logged (sym (length-map c.self.inside.log.items (λ (commit : Commit). commit.tid))) c.args.key.now none f), refl)
 
 -- an open transaction does not see it
 pub returns-then-not-are_above : goal.returns-then-not-are_above
@@ -37,7 +37,7 @@ returns-then-not-are_above c =
     (sym c.as_slice-3.ensures.value) (all i))) c.if-not-are_above.true in
     inr (
       subst (λ (n : Machine). IsForgettable (txns_of n) c.args.key.now → ⊥) c.self.view_is
-          (λ f. seen (seen_by_each m c.in-Some.place (forgettable_last c.self.invariant.sound.sound c.self.inside.log.items c.self.invariant.logged (sym (length-map c.self.inside.log.items (λ (commit : Commit). commit.tid))) c.args.key.now c.in-Some.place f last.0).1)),
+          (λ f. seen (seen_by_each m c.in-Some.place (forgettable_last c.self.invariant.0.sound.sound c.self.inside.log.items c.self.invariant.0.logged (sym (length-map c.self.inside.log.items (λ (commit : Commit). commit.tid))) c.args.key.now c.in-Some.place f last.0).1)),
       refl,
     )
 
@@ -54,6 +54,6 @@ returns c =
     (c.are_above.ensures.0 c.if-not-are_above.false i) in
     inl (
       subst (λ (n : Machine). IsForgettable (txns_of n) c.args.key.now) c.self.view_is
-          (newest_forgettable c.self.invariant.sound.sound c.self.inside.log.items c.self.invariant.logged (sym (length-map c.self.inside.log.items (λ (commit : Commit). commit.tid))) c.args.key.now none_open c.in-Some.place last.0 last.1 (seen_by_all m c.in-Some.place c.self.invariant.sound all)),
+          (newest_forgettable c.self.invariant.0.sound.sound c.self.inside.log.items c.self.invariant.0.logged (sym (length-map c.self.inside.log.items (λ (commit : Commit). commit.tid))) c.args.key.now none_open c.in-Some.place last.0 last.1 (seen_by_all m c.in-Some.place c.self.invariant.0.sound all)),
       refl,
     )

@@ -44,10 +44,12 @@ refused c =
 pub invariant_of-self : goal.invariant_of-self
 invariant_of-self c =
     let m = machine_of c.self.inside.drawn c.self.inside.log.items c.self.inside.conns.items in
-    let open_now = held_open m _ c.args.conn (Matches c.in-Some.running.now) c.self.view_is c.in-Some.ensures in
-    kept_event _ _ _ _ c.args.conn _ _ _ (Put c.args.conn c.args.key.now (option_copied c.args.rec)) (Met c.in-Some-in_the_way.met) (after_put c.args.key.now (option_copied c.args.rec) (Met c.in-Some-in_the_way.met)) c.self.invariant c.refuse_put.ensures c.index_mut.ensures.value
-    (subst (λ (n : Machine). Answers n (Put c.args.conn c.args.key.now (option_copied c.args.rec)) (Met c.in-Some-in_the_way.met)) (sym c.self.view_is) (refused c))
-    refl (λ ts. refl) (when_map _ _ _ (λ t h. settles_same t _ refl refl refl refl) open_now)
+    let open_now = held_open m _ c.args.conn (Matches c.in-Some.running.now) c.self.view_is c.in-Some.ensures in (
+      kept_event _ _ _ _ c.args.conn _ _ _ (Put c.args.conn c.args.key.now (option_copied c.args.rec)) (Met c.in-Some-in_the_way.met) (after_put c.args.key.now (option_copied c.args.rec) (Met c.in-Some-in_the_way.met)) c.self.invariant.0 c.refuse_put.ensures c.index_mut.ensures.value
+          (subst (λ (n : Machine). Answers n (Put c.args.conn c.args.key.now (option_copied c.args.rec)) (Met c.in-Some-in_the_way.met)) (sym c.self.view_is) (refused c))
+          refl (λ ts. refl) (when_map _ _ _ (λ t h. settles_same t _ refl refl refl refl) open_now),
+      c.self.invariant.1,
+    )
 
 pub returns-in-Some-in_the_way-clause-answer : goal.returns-in-Some-in_the_way-clause-answer
 returns-in-Some-in_the_way-clause-answer c = refused c
@@ -61,10 +63,12 @@ done c = put_done c.args.self.now c.args.conn c.args.key.now (option_copied c.ar
 pub invariant_of-self-2 : goal.invariant_of-self-2
 invariant_of-self-2 c =
     let m = machine_of c.self.inside.drawn c.self.inside.log.items c.self.inside.conns.items in
-    let open_now = held_open m _ c.args.conn (Matches c.in-Some.running.now) c.self.view_is c.in-Some.ensures in
-    kept_event _ _ _ _ c.args.conn _ _ _ (Put c.args.conn c.args.key.now (option_copied c.args.rec)) (Done) (after_put c.args.key.now (option_copied c.args.rec) (Done)) c.self.invariant c.in_ok-outcome.ensures.account c.index_mut-2.ensures.value
-    (subst (λ (n : Machine). Answers n (Put c.args.conn c.args.key.now (option_copied c.args.rec)) (Done)) (sym c.self.view_is) (done c))
-    refl (λ ts. refl) (when_map _ _ _ (λ t h. settles_put c.args.key.now (option_copied c.args.rec) t (sym h.place ∙ (c.may_put.ensures.0 c.if-not-may_put.false).1) c.requires.short) open_now)
+    let open_now = held_open m _ c.args.conn (Matches c.in-Some.running.now) c.self.view_is c.in-Some.ensures in (
+      kept_event _ _ _ _ c.args.conn _ _ _ (Put c.args.conn c.args.key.now (option_copied c.args.rec)) (Done) (after_put c.args.key.now (option_copied c.args.rec) (Done)) c.self.invariant.0 c.in_ok-outcome.ensures.account c.index_mut-2.ensures.value
+          (subst (λ (n : Machine). Answers n (Put c.args.conn c.args.key.now (option_copied c.args.rec)) (Done)) (sym c.self.view_is) (done c))
+          refl (λ ts. refl) (when_map _ _ _ (λ t h. settles_put c.args.key.now (option_copied c.args.rec) t (sym h.place ∙ (c.may_put.ensures.0 c.if-not-may_put.false).1) c.requires.short) open_now),
+      c.self.invariant.1,
+    )
 
 pub returns-clause-answer : goal.returns-clause-answer
 returns-clause-answer c = subst (Answers c.args.self.now (Put c.args.conn c.args.key.now (option_copied c.args.rec))) (sym c.in_ok-outcome.ensures.outcome) (done c)

@@ -32,10 +32,12 @@ refused c = put_refused_of c.args.self.now c.args.conn c.args.key.now (option_co
 pub invariant_of-self : goal.invariant_of-self
 invariant_of-self c =
     let m = machine_of c.self.inside.drawn c.self.inside.log.items c.self.inside.conns.items in
-    let open_now = held_open m _ c.args.conn (MayPutReserved c.args.key.now (option_copied c.args.rec)) c.self.view_is c.requires.reserved in
-    kept_event _ _ _ _ c.args.conn _ _ _ (Put c.args.conn c.args.key.now (option_copied c.args.rec)) (Met c.in-Some.met) (after_put c.args.key.now (option_copied c.args.rec) (Met c.in-Some.met)) c.self.invariant c.refuse_put.ensures c.index_mut.ensures.value
-    (subst (λ (n : Machine). Answers n (Put c.args.conn c.args.key.now (option_copied c.args.rec)) (Met c.in-Some.met)) (sym c.self.view_is) (refused c))
-    refl (λ ts. refl) (when_map _ _ _ (λ t h. settles_same t _ refl refl refl refl) open_now)
+    let open_now = held_open m _ c.args.conn (MayPutReserved c.args.key.now (option_copied c.args.rec)) c.self.view_is c.requires.reserved in (
+      kept_event _ _ _ _ c.args.conn _ _ _ (Put c.args.conn c.args.key.now (option_copied c.args.rec)) (Met c.in-Some.met) (after_put c.args.key.now (option_copied c.args.rec) (Met c.in-Some.met)) c.self.invariant.0 c.refuse_put.ensures c.index_mut.ensures.value
+          (subst (λ (n : Machine). Answers n (Put c.args.conn c.args.key.now (option_copied c.args.rec)) (Met c.in-Some.met)) (sym c.self.view_is) (refused c))
+          refl (λ ts. refl) (when_map _ _ _ (λ t h. settles_same t _ refl refl refl refl) open_now),
+      c.self.invariant.1,
+    )
 
 pub returns-in-Some-clause-answer : goal.returns-in-Some-clause-answer
 returns-in-Some-clause-answer c = refused c
@@ -49,10 +51,12 @@ done c = put_done_of c.args.self.now c.args.conn c.args.key.now (option_copied c
 pub invariant_of-self-2 : goal.invariant_of-self-2
 invariant_of-self-2 c =
     let m = machine_of c.self.inside.drawn c.self.inside.log.items c.self.inside.conns.items in
-    let open_now = held_open m _ c.args.conn (MayPutReserved c.args.key.now (option_copied c.args.rec)) c.self.view_is c.requires.reserved in
-    kept_event _ _ _ _ c.args.conn _ _ _ (Put c.args.conn c.args.key.now (option_copied c.args.rec)) (Done) (after_put c.args.key.now (option_copied c.args.rec) (Done)) c.self.invariant c.put_reserved.ensures c.index_mut-2.ensures.value
-    (subst (λ (n : Machine). Answers n (Put c.args.conn c.args.key.now (option_copied c.args.rec)) (Done)) (sym c.self.view_is) (done c))
-    refl (λ ts. refl) (when_map _ _ _ (λ t h. settles_put c.args.key.now (option_copied c.args.rec) t h.1 (reserved_short _ _ _ _ c.opened.ensures c.requires.reserved)) open_now)
+    let open_now = held_open m _ c.args.conn (MayPutReserved c.args.key.now (option_copied c.args.rec)) c.self.view_is c.requires.reserved in (
+      kept_event _ _ _ _ c.args.conn _ _ _ (Put c.args.conn c.args.key.now (option_copied c.args.rec)) (Done) (after_put c.args.key.now (option_copied c.args.rec) (Done)) c.self.invariant.0 c.put_reserved.ensures c.index_mut-2.ensures.value
+          (subst (λ (n : Machine). Answers n (Put c.args.conn c.args.key.now (option_copied c.args.rec)) (Done)) (sym c.self.view_is) (done c))
+          refl (λ ts. refl) (when_map _ _ _ (λ t h. settles_put c.args.key.now (option_copied c.args.rec) t h.1 (reserved_short _ _ _ _ c.opened.ensures c.requires.reserved)) open_now),
+      c.self.invariant.1,
+    )
 
 pub returns-clause-answer : goal.returns-clause-answer
 returns-clause-answer c = done c

@@ -8,7 +8,7 @@ use Rattle.hc_core.proofs.machine.Core.reserve.Goals as goal
 
 -- an id is left
 pub draw_next-requires-clause-left : goal.draw_next-requires-clause-left
-draw_next-requires-clause-left c = omega (arith, ap (λ (m : Machine). m.drawn) c.self.view_is, c.self.invariant.bounded, c.if-self.false)
+draw_next-requires-clause-left c = omega (arith, ap (λ (m : Machine). m.drawn) c.self.view_is, c.self.invariant.0.bounded, c.if-self.false)
 
 pub make_room-requires-clause-open : goal.make_room-requires-clause-open
 make_room-requires-clause-open c = c.in_ok-draw_next.ensures.drawn.open_now

@@ -13,6 +13,8 @@ unput-requires c = record { «open» = there_open _ _ c.args.conn _ _ (λ t. Has
 -- what is decided has no key taken out
 pub invariant_of-self : goal.invariant_of-self
 invariant_of-self c =
-    let open_now = held_open (machine_of c.self.inside.drawn c.self.inside.log.items c.self.inside.conns.items) _ c.args.conn (λ t. HasWritten t c.args.key.now × (t.place ≡ 0)) c.self.view_is (c.may_unput.ensures.0 c.if-not-may_unput.false) in
-    kept_event _ _ _ _ c.args.conn _ _ _ (Unput c.args.conn c.args.key.now) Done (after_unput c.args.key.now Done) c.self.invariant c.unput.ensures.account c.index_mut.ensures.value
-    (inl (open_now, refl)) refl (λ ts. refl) (when_map _ _ _ (λ t h. settles_without c.args.key.now t h.1) open_now)
+    let open_now = held_open (machine_of c.self.inside.drawn c.self.inside.log.items c.self.inside.conns.items) _ c.args.conn (λ t. HasWritten t c.args.key.now × (t.place ≡ 0)) c.self.view_is (c.may_unput.ensures.0 c.if-not-may_unput.false) in (
+      kept_event _ _ _ _ c.args.conn _ _ _ (Unput c.args.conn c.args.key.now) Done (after_unput c.args.key.now Done) c.self.invariant.0 c.unput.ensures.account c.index_mut.ensures.value
+          (inl (open_now, refl)) refl (λ ts. refl) (when_map _ _ _ (λ t h. settles_without c.args.key.now t h.1) open_now),
+      c.self.invariant.1,
+    )
