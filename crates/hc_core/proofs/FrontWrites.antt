@@ -13,7 +13,7 @@ use Rattle.hc_core.specs.Account.{without}
 use Rattle.hc_base.specs.Lookup.{Among}
 use Rattle.hc_core.specs.Running.{HaveSameWrites, holds_key}
 use Rattle.hc_core.specs.Sound.{HasEachOnce}
-use Rattle.hc_core.specs.WriteSet.{HasAllOf, IsHeldIn, IsWriteAt, is_of_key, is_same_rec, is_write}
+use Rattle.hc_core.specs.WriteSet.{HasAllOf, IsHeldIn, IsKeyAt, IsWriteAt, is_of_key, is_same_rec, is_write}
 use Rattle.hc_core.specs.declared.cells.Write.{Write}
 use Rattle.hc_core.proofs.Elements.{among_push}
 use Rattle.hc_core.proofs.LogEntries.{holds_from}
@@ -138,13 +138,20 @@ grown_either items after w put place within once new held =
     held
 
 -- the place that was found of a key that is put
-pub found_put : (items : List Write) (key : List ℕ) (put place : ℕ) → put ≤ length items → position (is_of_key key) (take put items) ≡ Some place
+pub found_put : (items : List Write) (key : List ℕ) (put place : ℕ) → put ≤ length items → IsKeyAt key (take put items) place
     → (place < put) × ((d : Write) → (get_or (take put items) place d).key ≡ key)
-found_put items key put place within found =
-    let at = λ (d : Write). position-Some (is_of_key key) (take put items) place d found in (
-      subst (λ n. place < n) (length-take-le put items within) ((at (record { key = []; rec = None })).0),
-      λ d. (bytes_eq-Decides (get_or (take put items) place d).key key).0 ((at d).1),
-    )
+found_put items key put place within found = (
+  subst (λ n. place < n) (length-take-le put items within) found.0,
+  λ d. (bytes_eq-Decides (get_or (take put items) place d).key key).0 (found.1 d),
+)
+
+-- and the same of the first place that a search finds
+pub key_at : (key : List ℕ) (writes : List Write) (found : Option ℕ) → found ≡ position (is_of_key key) writes
+    → MatchOption found (position (is_of_key key) writes ≡ None) (λ place. IsKeyAt key writes place)
+key_at key writes None is = sym is
+key_at key writes (Some place) is =
+    let at = λ (d : Write). position-Some (is_of_key key) writes place d (sym is) in
+    ((at (record { key = []; rec = None })).0, λ d. (at d).1)
 
 -- a put is taken back, and `last` writes are left in front
 pub record Shrunk (put last : ℕ) (items : List Write) (key : List ℕ) (after : List Write) : Type 0 where

@@ -31,6 +31,10 @@ HasAllOf before after = (w : Write) → Among w before → Among w after
 abbrev pub IsWriteAt : List ℕ → Option (List ℕ) → List Write → ℕ → Type 0
 IsWriteAt key rec writes place = (place < length writes) × ((d : Write) → is_write key rec (get_or writes place d) ≡ true)
 
+-- a key is that of the write at a place
+abbrev pub IsKeyAt : List ℕ → List Write → ℕ → Type 0
+IsKeyAt key writes place = (place < length writes) × ((d : Write) → is_of_key key (get_or writes place d) ≡ true)
+
 -- a write is at a place among writes that are those before, or those before and this one
 abbrev pub IsHeldIn : Write → List Write → List Write → ℕ → Type 0
 IsHeldIn w before after place = ((after ≡ before) × IsWriteAt w.key w.rec before place) ⊎ ((after ≡ before ++ w ∷ []) × (place ≡ length before))

@@ -4,7 +4,7 @@ ghost use Rattle.std.specs.Option.{option_copied};
 ghost use Rattle.hc_core.specs.Account.{without};
 ghost use Rattle.hc_base.specs.Lookup.{Among};
 ghost use Rattle.hc_core.specs.Running.{HaveSameWrites, holds_key};
-ghost use Rattle.hc_core.specs.WriteSet.{HasAllOf, IsHeldIn, IsWriteAt, is_of_key, is_same_rec, is_write};
+ghost use Rattle.hc_core.specs.WriteSet.{HasAllOf, IsHeldIn, IsKeyAt, IsWriteAt, is_of_key, is_same_rec, is_write};
 
 use crate::copying::copy_write;
 use crate::running::has_key;
@@ -56,13 +56,19 @@ fn place_of(writes: &[Write], key: &[u8], rec: Option<&[u8]>) -> Option<usize>
     writes.iter().position(|write| is_write(write, key, rec))
 }
 
-// The place of a write among writes. The first place to look at is that of the next put: it is there where writes are put
-// in the order in which room was made for them.
+// The place of a write among writes. The first places to look at are that of the next put and the opposite one: it is there
+// where writes are put in the order in which room was made for them, and in the reverse order.
 fn held_place(writes: &[Write], next: usize, key: &[u8], rec: Option<&[u8]>) -> Option<usize>
     ensures { MatchOption result (position (is_write key.now (option_copied rec.entry)) writes.now ≡ None) (λ place. IsWriteAt key.now (option_copied rec.entry) writes.now place) }
 {
-    if next < writes.len() && is_write(&writes[next], key, rec) {
-        return Some(next);
+    if next < writes.len() {
+        if is_write(&writes[next], key, rec) {
+            return Some(next);
+        }
+        let opposite = writes.len() - 1 - next;
+        if is_write(&writes[opposite], key, rec) {
+            return Some(opposite);
+        }
     }
     place_of(writes, key, rec)
 }
@@ -72,6 +78,29 @@ fn place_of_key(writes: &[Write], key: &[u8]) -> Option<usize>
     ensures { result ≡ position (is_of_key key.now) writes.now }
 {
     writes.iter().position(|write| write.key.as_slice() == key)
+}
+
+// Whether the write at a place is of a key.
+fn is_at(writes: &[Write], place: usize, key: &[u8]) -> bool
+    ensures { result ≡ true → IsKeyAt key.now writes.now place }
+{
+    place < writes.len() && writes[place].key.as_slice() == key
+}
+
+// The place of a key among writes that are put, out of some number of writes. It is looked for at the end, and at the opposite
+// place: it is there where puts are taken back in the reverse order, and in the order in which room was made for them.
+fn put_place(put: &[Write], all: usize, key: &[u8]) -> Option<usize>
+    ensures { MatchOption result (position (is_of_key key.now) put.now ≡ None) (λ place. IsKeyAt key.now put.now place) }
+{
+    let last = put.len().saturating_sub(1);
+    if is_at(put, last, key) {
+        return Some(last);
+    }
+    let opposite = all.saturating_sub(put.len());
+    if is_at(put, opposite, key) {
+        return Some(opposite);
+    }
+    place_of_key(put, key)
 }
 
 // The place of a write among writes, which get it where it was not there.
@@ -149,7 +178,7 @@ impl WriteSet {
         ensures put { HaveSameWrites self.new.put (without key.now self.old.put) }
         ensures all { HasAllOf self.old.all self.new.all }
     {
-        let Some(place) = place_of_key(self.put(), key) else {
+        let Some(place) = put_place(self.put(), self.writes.len(), key) else {
             unreachable!()
         };
         let last = self.put - 1;

@@ -1,8 +1,9 @@
-use Rattle.std.proofs.Common.{◌∙◌, ◌-◌, arith, refl, sym, ap, subst, position, take}
+use Rattle.std.proofs.Common.{◌∙◌, ◌-◌, arith, refl, sym, ap, subst, take, List}
 use Rattle.hc_core.specs.Account.{without}
 use Rattle.hc_base.specs.Lookup.{Among}
 use Rattle.hc_core.specs.Running.{HaveSameWrites}
-use Rattle.hc_core.specs.WriteSet.{Held, is_of_key}
+use Rattle.hc_core.specs.WriteSet.{Held, IsKeyAt, is_of_key}
+use Rattle.hc_core.specs.declared.cells.Write.{Write}
 use Rattle.hc_core.proofs.FrontWrites.{Shrunk, found_put, has_position, shrunk}
 use Rattle.hc_core.proofs.LogEntries.{holds_into}
 use Rattle.hc_core.proofs.write_set.WriteSet.take_back.Goals as goal
@@ -13,13 +14,13 @@ pub unreachable-requires : goal.unreachable-requires
 unreachable-requires c =
     let held = holds_into c.args.key.now c.put.result.now (rw c.put.ensures c.requires.there) in
     has_position (is_of_key c.args.key.now) c.put.result.now _ held.1 ((bytes_eq-Decides c.args.key.now c.args.key.now).1 refl)
-    (sym c.place_of_key.ensures ∙ c.in_default.is)
+    c.in_default.ensures
 
 -- the key leaves the front
 less : (c : goal.After-self-1) → Shrunk c.self.inside.put (c.self.inside.put - 1) c.self.inside.writes.items c.args.key.now c.swap.new.self.items
 less c =
     let found = found_put c.self.inside.writes.items c.args.key.now c.self.inside.put c.in-Some.place c.self.invariant.0
-    (ap (position (is_of_key c.args.key.now)) (ap (λ (h : Held). h.put) c.self.view_is ∙ sym c.put.ensures) ∙ sym c.place_of_key.ensures ∙ c.in-Some.is) in
+    (subst (λ (ws : List Write). IsKeyAt c.args.key.now ws c.in-Some.place) (c.put.ensures ∙ sym (ap (λ (h : Held). h.put) c.self.view_is)) c.in-Some.ensures) in
     rw c.swap.ensures.items
     (shrunk c.self.inside.writes.items c.self.inside.put (c.self.inside.put - 1) c.in-Some.place c.args.key.now (omega (arith, found.0)) c.self.invariant.0 c.self.invariant.1 found.0 found.1)
 
