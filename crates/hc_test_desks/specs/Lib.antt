@@ -1,2 +1,3 @@
 pub mod Guarded
 pub mod Putting
+pub mod Turns
