@@ -1,12 +1,13 @@
-//! Runs of one connection by the calls of its desk, through `ListDesk` and through `CutDesk` over it. Numbers are keys and
-//! records as in the runs by events. The answers were worked out by hand from the table of calls in
+//! Runs by the calls of desks: of one connection, through `ListDesk` and through `CutDesk` over it, and of several, whose desks
+//! take turns at one machine. Numbers are keys and records as in the runs by events. The answers were worked out by hand from the table of calls in
 //! `crates/hc_core/README.md`.
 ghost use Rattle.std.specs.Prelude.{◌≡◌, []};
+ghost use Rattle.hc_test_desks.specs.Turns.{AreGuarded};
 
 use crate::machine::{bytes, end, push_bytes};
 use hc_core::{Core, CutDesk, Desk, ListDesk, Next, NoMemory, Part, Write};
 use hc_range::{KeyBuf, Range};
-use hc_test_desks::{Answer, Call, Guard, make_call};
+use hc_test_desks::{Answer, Call, Guard, make_call, new_guards, take_turn};
 use sqlite_items::Items;
 use std::alloc::Global;
 use std::process::Abort;
@@ -87,7 +88,11 @@ fn text_of(alloc: Global, answer: &Answer, part: &Part) -> Result<String, Fail> 
         }
         Answer::Last(some) => format!(in alloc; "last {some}")?,
         Answer::NoRoom(fault) => format!(in alloc; "no room: {fault}")?,
-        Answer::Met(met) => format!(in alloc; "{met}")?,
+        Answer::Met(met) => {
+            let mut text = format!(in alloc; "met {} of {}.{} at ", met.tid.0, met.conn, met.ord)?;
+            push_bytes(alloc, &mut text, met.key.as_slice())?;
+            text
+        }
         Answer::Proposed(number) => format!(in alloc; "proposed {}", number.0)?,
         Answer::Checked(Next::End) => format!(in alloc; "checked")?,
         Answer::Checked(Next::More(key)) => {
@@ -96,7 +101,7 @@ fn text_of(alloc: Global, answer: &Answer, part: &Part) -> Result<String, Fail> 
             text
         }
         Answer::Decided(number) => format!(in alloc; "decided {}", number.0)?,
-        Answer::Lost(lost) => format!(in alloc; "{lost}")?,
+        Answer::Lost(lost) => format!(in alloc; "lost {} to {}", lost.cid.0, lost.other.0)?,
     };
     for cell in part.cells.as_slice() {
         text.push_str(" ")?;
@@ -259,6 +264,191 @@ fn each_call_is_answered_through_a_desk_that_cuts_ranges(rt: HostRuntime) -> Res
         };
         let mut desk = CutDesk::new(alloc, list, &keys)?;
         run_all(&rt, alloc, &mut desk, run)?;
+    }
+    Ok(())
+}
+
+// Two transactions read what the other puts: the first one commits, and the other one's check is refused.
+const WRITE_SKEW: &[(u32, Do, &str)] = &[
+    (0, Do::Begin, "began 0"),
+    (1, Do::Begin, "began 0"),
+    (0, Do::Read(0x62, 0x63), "cells"),
+    (1, Do::Read(0x61, 0x62), "cells"),
+    (0, Do::Reserve(1, &[(0x61, 1)]), "done"),
+    (1, Do::Reserve(1, &[(0x62, 1)]), "done"),
+    (0, Do::Put(0), "done"),
+    (1, Do::Put(0), "done"),
+    (0, Do::Propose, "proposed 1"),
+    (0, Do::Check(0x62, 0x63), "checked"),
+    (0, Do::Decide, "decided 1"),
+    (1, Do::Propose, "proposed 2"),
+    (1, Do::Decide, "not now"),
+    (1, Do::Check(0x61, 0x62), "met 1 of 0.1 at 61"),
+    (1, Do::Unput(0x62), "done"),
+    (1, Do::End, "done"),
+    (0, Do::End, "done"),
+];
+
+// What a check finds below the proposed number is named, though a newer commit put the key again.
+const UNDER_A_NEWER_ONE: &[(u32, Do, &str)] = &[
+    (0, Do::Begin, "began 0"),
+    (0, Do::Read(0x61, 0x62), "cells"),
+    (1, Do::Begin, "began 0"),
+    (1, Do::Reserve(1, &[(0x61, 1)]), "done"),
+    (1, Do::Put(0), "done"),
+    (1, Do::Propose, "proposed 1"),
+    (1, Do::Decide, "decided 1"),
+    (1, Do::End, "done"),
+    (0, Do::Reserve(1, &[(0x70, 1)]), "done"),
+    (0, Do::Put(0), "done"),
+    (0, Do::Propose, "proposed 2"),
+    (2, Do::Begin, "began 1"),
+    (2, Do::Read(0x60, 0), "cells 61=01"),
+    (2, Do::Reserve(1, &[(0x61, 2)]), "done"),
+    (2, Do::Put(0), "done"),
+    (2, Do::Propose, "proposed 2"),
+    (2, Do::Check(0x60, 0), "checked"),
+    (2, Do::Decide, "decided 2"),
+    (2, Do::End, "done"),
+    (0, Do::Check(0x61, 0x62), "met 1 of 1.1 at 61"),
+    (0, Do::Unput(0x70), "done"),
+    (0, Do::End, "done"),
+    (0, Do::Begin, "began 2"),
+    (0, Do::Read(0x60, 0), "cells 61=02"),
+    (0, Do::End, "done"),
+];
+
+// A put meets an undecided one, and is done once that is taken back.
+const MET_BY_A_PUT: &[(u32, Do, &str)] = &[
+    (0, Do::Begin, "began 0"),
+    (1, Do::Begin, "began 0"),
+    (0, Do::Reserve(3, &[(0x61, 1), (0x62, 1)]), "done"),
+    (1, Do::Reserve(1, &[(0x62, 2)]), "done"),
+    (0, Do::Put(1), "done"),
+    (1, Do::Put(0), "met 1 of 0.3 at 62"),
+    (1, Do::Propose, "not now"),
+    (0, Do::Unput(0x62), "done"),
+    (1, Do::Put(0), "done"),
+    (0, Do::Put(1), "met 2 of 1.1 at 62"),
+    (0, Do::End, "done"),
+    (1, Do::Propose, "proposed 1"),
+    (1, Do::Decide, "decided 1"),
+    (1, Do::End, "done"),
+    (2, Do::Begin, "began 1"),
+    (2, Do::Read(0x61, 0), "cells 62=02"),
+    (2, Do::End, "done"),
+];
+
+// A transaction that has lost its number proposes the next one. Its checks are void, and one of them is refused now.
+const LOST_AND_MET: &[(u32, Do, &str)] = &[
+    (0, Do::Begin, "began 0"),
+    (1, Do::Begin, "began 0"),
+    (2, Do::Begin, "began 0"),
+    (0, Do::Read(0x61, 0x70), "cells"),
+    (1, Do::Read(0x71, 0x80), "cells"),
+    (0, Do::Reserve(1, &[(0x71, 1)]), "done"),
+    (1, Do::Reserve(1, &[(0x72, 1)]), "done"),
+    (2, Do::Reserve(1, &[(0x62, 1)]), "done"),
+    (0, Do::Put(0), "done"),
+    (1, Do::Put(0), "done"),
+    (2, Do::Put(0), "done"),
+    (0, Do::Propose, "proposed 1"),
+    (1, Do::Propose, "proposed 1"),
+    (2, Do::Propose, "proposed 1"),
+    (0, Do::Check(0x61, 0x70), "checked"),
+    (1, Do::Check(0x71, 0x80), "checked"),
+    (0, Do::Decide, "decided 1"),
+    (1, Do::Decide, "lost 1 to 1"),
+    (2, Do::Decide, "lost 1 to 1"),
+    (1, Do::Decide, "not now"),
+    (2, Do::Propose, "proposed 2"),
+    (2, Do::Decide, "decided 2"),
+    (1, Do::Propose, "proposed 3"),
+    (1, Do::Decide, "not now"),
+    (1, Do::Check(0x71, 0x80), "met 1 of 0.1 at 71"),
+    (1, Do::Unput(0x72), "done"),
+    (1, Do::End, "done"),
+    (0, Do::End, "done"),
+    (2, Do::End, "done"),
+    (1, Do::Begin, "began 2"),
+    (1, Do::Read(0x61, 0), "cells 62=01 71=01"),
+    (1, Do::Last(0x61, 0x71), "last true 62=01"),
+    (1, Do::End, "done"),
+];
+
+// An older snapshot reads what was there, while newer ones read what came then, whichever reads first.
+const OLD_AND_NEW: &[(u32, Do, &str)] = &[
+    (0, Do::Begin, "began 0"),
+    (
+        0,
+        Do::Reserve(1, &[(0x61, 1), (0x62, 1), (0x63, 1)]),
+        "done",
+    ),
+    (0, Do::Put(0), "done"),
+    (0, Do::Put(1), "done"),
+    (0, Do::Put(2), "done"),
+    (0, Do::Propose, "proposed 1"),
+    (0, Do::Decide, "decided 1"),
+    (0, Do::End, "done"),
+    (1, Do::Begin, "began 1"),
+    (0, Do::Begin, "began 1"),
+    (
+        0,
+        Do::Reserve(2, &[(0x61, 2), (0x62, 0), (0x64, 2)]),
+        "done",
+    ),
+    (0, Do::Put(2), "done"),
+    (0, Do::Put(1), "done"),
+    (0, Do::Put(0), "done"),
+    (0, Do::Propose, "proposed 2"),
+    (0, Do::Decide, "decided 2"),
+    (0, Do::End, "done"),
+    (2, Do::Begin, "began 2"),
+    (2, Do::Read(0x61, 0), "cells 61=02 63=01 64=02"),
+    (1, Do::Read(0x61, 0), "cells 61=01 62=01 63=01"),
+    (1, Do::Last(0x61, 0), "last true 63=01"),
+    (2, Do::Last(0x61, 0), "last true 64=02"),
+    (1, Do::End, "done"),
+    (2, Do::Read(0x62, 0x64), "cells 63=01"),
+    (2, Do::Read(0x61, 0), "cells 61=02 63=01 64=02"),
+    (2, Do::Read(0x63, 0x62), "not now"),
+    (2, Do::End, "done"),
+];
+
+// Makes the calls of a run, each through a desk of its connection.
+fn run_turns<R: Abort>(
+    rt: &R,
+    alloc: Global,
+    core: &mut Core,
+    guards: &mut Vec<Guard>,
+    run: &[(u32, Do, &str)],
+) -> Result<(), Fail>
+    requires { AreGuarded core.old guards.old.items }
+{
+    for (conn, what, wanted) in run {
+        let mut part = Part {
+            cells: Items::new(alloc),
+        };
+        let answer = take_turn(core, guards, *conn, alloc, call(alloc, *what)?, &mut part)?;
+        assert_eq!(rt; text_of(alloc, &answer, &part)?.as_str(), *wanted);
+    }
+    Ok(())
+}
+
+// Desks of three connections take turns at one machine, and each is made for one call.
+#[test]
+fn desks_take_turns_at_one_machine(rt: HostRuntime) -> Result<(), Fail> {
+    let alloc = rt.alloc();
+    for run in [
+        WRITE_SKEW,
+        UNDER_A_NEWER_ONE,
+        MET_BY_A_PUT,
+        LOST_AND_MET,
+        OLD_AND_NEW,
+    ] {
+        let mut core = Core::new(alloc, 3)?;
+        let mut guards = new_guards(alloc, 3)?;
+        run_turns(&rt, alloc, &mut core, &mut guards, run)?;
     }
     Ok(())
 }

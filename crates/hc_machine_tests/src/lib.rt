@@ -7,3 +7,5 @@ mod desks;
 mod list_desk;
 #[cfg(test)]
 mod machine;
+#[cfg(test)]
+mod random;

@@ -10,7 +10,7 @@ use std::alloc::Global;
 use std::test::Fail;
 
 #[derive(Debug, Clone, Copy)]
-enum Do {
+pub enum Do {
     Begin(u32),
     Draw(u32, u32),
     Read(u32, u32, u32),
@@ -44,7 +44,7 @@ pub fn end(alloc: Global, end: u32) -> Result<Option<Bytes>, NoMemory> {
     }
 }
 
-fn event(alloc: Global, what: Do) -> Result<Event, NoMemory>
+pub fn event(alloc: Global, what: Do) -> Result<Event, NoMemory>
     ensures { IfOk result PutsShortKey }
 {
     Ok(match what {
@@ -95,7 +95,7 @@ pub fn push_bytes(alloc: Global, text: &mut String, bytes: &[u8]) -> Result<(), 
     Ok(())
 }
 
-fn answer(alloc: Global, outcome: &Outcome) -> Result<String, Fail> {
+pub fn answer(alloc: Global, outcome: &Outcome) -> Result<String, Fail> {
     Ok(match outcome {
         Outcome::Done => format!(in alloc; "done")?,
         Outcome::Began(snapshot) => format!(in alloc; "began {}", snapshot.0)?,
