@@ -1,3 +1,4 @@
+mod Bindings
 mod CatalogKeys
 mod EntryKinds
 mod GoodEntries

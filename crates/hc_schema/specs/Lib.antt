@@ -5,3 +5,4 @@ pub mod Reading
 pub mod Laws
 pub mod Paths
 pub mod Trees
+pub mod Binding

@@ -17,6 +17,7 @@ mod reading;
 mod row;
 mod table;
 mod tree;
+mod typed;
 
 pub use bound_statement::{
     Aggregate, AggregateKind, BoundRow, BoundSelect, BoundSet, BoundStmt, SortKey,
@@ -29,3 +30,4 @@ pub use range::{catalog_range, tree_range, value_range, whole_catalog};
 pub use row::{Row, row_cells, row_lens, row_of};
 pub use table::{Column, Index, IndexKind, Table};
 pub use tree::next_tree;
+pub use typed::{Called, Computed, Function, Typed};
