@@ -1,0 +1,6 @@
+mod Columns
+mod Conditions
+mod Forms
+mod Judging
+mod Slots
+mod Statements
