@@ -1,0 +1,5 @@
+pub mod Growing
+pub mod Putting
+pub mod Checking
+pub mod Proposing
+pub mod Ready

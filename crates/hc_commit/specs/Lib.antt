@@ -1,0 +1,5 @@
+pub mod Entries
+pub mod Checks
+pub mod Stages
+pub mod Giving
+pub mod Commit

@@ -15,4 +15,5 @@ mod reading;
 mod txn;
 
 pub use hc_range::NoMemory;
+pub use reading::place;
 pub use txn::{Net, NoMark, Txn, WriteFault, handed_over};

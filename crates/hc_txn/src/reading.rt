@@ -26,8 +26,8 @@ fn are_bytes(bytes: &[u8])
     ensures { (i : ℕ) → get_or bytes.now i 0 < 256 }
 {}
 
-// Where a call stopped, which is a short key.
-fn place(next: Next) -> Next
+/// Where a call of a desk stopped, which is a short key.
+pub fn place(next: Next) -> Next
     ensures same { result ≡ next }
     ensures place { IsPlace next }
 {
