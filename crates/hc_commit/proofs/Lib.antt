@@ -3,3 +3,4 @@ pub mod Putting
 pub mod Checking
 pub mod Proposing
 pub mod Ready
+pub mod Ordinals

@@ -142,6 +142,7 @@ pub fn commit<D: Desk>(txn: Txn, desk: &mut D, ord: u32) -> Result<Ending, (Comm
     ensures failed { IfErr result (λ fault. (fault.1 ≡ RolledBack txn.snapshot)
         × ((tried : List Entry) × HasFailed (D.conn desk.old) ord (D.most desk.old) txn fault.0 (D.account desk.old) tried
         × (D.account desk.new ≡ entry_of (End (D.conn desk.old)) Done ∷ tried))) }
+    ensures ords { greatest_ord (txns (D.account desk.new)) ≤ ord }
     ensures nothing_put { OnErr result (HasEndedBare (txns (D.account desk.new))) }
     ensures ended { IsIdle (txns (D.account desk.new)) }
     ensures on { GoesOn D.conn D.most D.seen D.later desk.old desk.new }
