@@ -5,3 +5,4 @@ pub mod Normal
 pub mod Searched
 pub mod Unique
 pub mod United
+pub mod Merged

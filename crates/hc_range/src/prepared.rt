@@ -1,10 +1,10 @@
 // A log is united with a range in two steps: the first takes the memory, the second takes none.
-ghost use Rattle.std.specs.Prelude.{◌≡◌, ◌≤◌, ◌<◌, ◌+◌, ℕ, List, [], Some, length, ◌⊎◌, ◌↔◌, vec_len, vec_capacity, IfOk, IfErr, OnOk, OnErr};
+ghost use Rattle.std.specs.Prelude.{◌≡◌, ◌≤◌, ◌<◌, ℕ, List, [], Some, length, ◌⊎◌, ◌↔◌, vec_len, vec_capacity, IfOk, IfErr, OnOk, OnErr};
 ghost use Rattle.hc_range.specs.Ranges.{InAny, InRange, IsNormal};
 
 use crate::key::LONGEST_KEY;
-use crate::range::{copy_range, is_non_empty};
-use crate::union::unite;
+use crate::range::copy_range;
+use crate::union::add_with_room;
 use crate::{Bytes, NoMemory, Range, ReadLog};
 use std::marker::Model;
 
@@ -119,22 +119,6 @@ fn filled(mut spare: Vec<u8>, key: &[u8]) -> Vec<u8>
 {
     match spare.extend_from_slice(key) {
         Ok(()) => spare,
-        Err(_) => unreachable!(),
-    }
-}
-
-// Unites a range with a list that has room for it.
-fn add_with_room(ranges: &mut Vec<Range>, range: Range)
-    requires normal { IsNormal ranges.old.items }
-    requires room { vec_len ranges.old < vec_capacity ranges.old }
-    ensures normal { IsNormal ranges.new.items }
-    ensures added { (key : List ℕ) → InAny ranges.new.items key ↔ (InAny ranges.old.items key ⊎ InRange range key) }
-{
-    if !is_non_empty(&range) {
-        return;
-    }
-    match unite(ranges, range) {
-        Ok(()) => {}
         Err(_) => unreachable!(),
     }
 }

@@ -13,6 +13,19 @@ pub(crate) fn count_before(ranges: &[Range], key: &[u8]) -> usize
     ensures before { AllWithin (λ range. is_end_below range.hi key.now ≡ true) ranges.now 0 result }
     ensures others { AllWithin (λ range. is_end_below range.hi key.now ≡ false) ranges.now result (length ranges.now) }
 {
+    match ranges.last() {
+        Some(last) if is_end_below(&last.hi, key) => ranges.len(),
+        _ => count_before_any(ranges, key),
+    }
+}
+
+// The same, by a search alone.
+fn count_before_any(ranges: &[Range], key: &[u8]) -> usize
+    requires { IsNormal ranges.now }
+    ensures within { result ≤ length ranges.now }
+    ensures before { AllWithin (λ range. is_end_below range.hi key.now ≡ true) ranges.now 0 result }
+    ensures others { AllWithin (λ range. is_end_below range.hi key.now ≡ false) ranges.now result (length ranges.now) }
+{
     ranges.partition_point(|range| is_end_below(&range.hi, key))
 }
 

@@ -1,9 +1,10 @@
 // A range is united with a list in normal form: the stretch that it overlaps or touches becomes one range.
-ghost use Rattle.std.specs.Prelude.{◌≡◌, ℕ, ◌+◌, ◌-◌, ◌<◌, ◌≤◌, List, ◌∷◌, ◌++◌, ◌⊎◌, ◌↔◌, slice_index_or, take, drop, vec_capacity, vec_len, IsOk, OnOk, OnErr};
+ghost use Rattle.std.specs.Prelude.{◌≡◌, ◌≢◌, ℕ, ◌+◌, ◌-◌, ◌<◌, ◌≤◌, List, [], ◌∷◌, ◌++◌, ◌⊎◌, ◌↔◌, true, false, slice_index_or, take, drop, vec_capacity, vec_len, IsOk, OnOk, OnErr, IfSome, IfNone};
 ghost use Rattle.hc_range.specs.Order.{lower};
+ghost use Rattle.hc_range.specs.Merging.{HasTakenOne};
 ghost use Rattle.hc_range.specs.Ranges.{later, united, IsNonEmpty, InAny, InRange, IsNormal};
 
-use crate::range::is_end_below;
+use crate::range::{is_end_below, is_non_empty};
 use crate::search::{count_before, count_begun};
 use crate::{Bytes, NoMemory, Range, is_below};
 
@@ -31,8 +32,8 @@ pub(crate) fn unite(ranges: &mut Vec<Range>, range: Range) -> Result<(), NoMemor
     Ok(())
 }
 
-// Unites two lists in normal form. Memory is taken first, so that without it nothing has changed.
-pub(crate) fn unite_all(ranges: &mut Vec<Range>, others: Vec<Range>) -> Result<(), NoMemory>
+// Unites two lists in normal form, in one pass over both. Memory is taken first, so that without it nothing has changed.
+pub(crate) fn unite_all(ranges: &mut Vec<Range>, mut others: Vec<Range>) -> Result<(), NoMemory>
     requires normal { IsNormal ranges.old.items }
     requires holds { IsNormal others.items }
     ensures normal { IsNormal ranges.new.items }
@@ -40,14 +41,57 @@ pub(crate) fn unite_all(ranges: &mut Vec<Range>, others: Vec<Range>) -> Result<(
         InAny ranges.new.items key ↔ (InAny ranges.old.items key ⊎ InAny others.items key)) }
     ensures no_memory { OnErr result (ranges.new.items ≡ ranges.old.items) }
 {
-    ranges.reserve(others.len())?;
-    for range in others {
-        match unite(ranges, range) {
-            Ok(()) => {}
-            Err(_) => unreachable!(),
-        }
+    let mut out = Vec::new(*ranges.allocator());
+    out.reserve(ranges.len().saturating_add(others.len()))?;
+    ranges.reverse();
+    others.reverse();
+    while let Some(range) = take_lower(ranges, &mut others) {
+        add_with_room(&mut out, range);
     }
+    *ranges = out;
     Ok(())
+}
+
+// Whether the last of the first list begins below the last of the second, or the second has none.
+fn is_last_lower(ranges: &[Range], others: &[Range]) -> bool
+    ensures some { result ≡ true → ranges.now ≢ [] }
+    ensures none { result ≡ false → others.now ≡ [] → ranges.now ≡ [] }
+{
+    match (ranges.last(), others.last()) {
+        (Some(range), Some(other)) => is_below(range.lo.as_slice(), other.lo.as_slice()),
+        (Some(_range), None) => true,
+        (None, _other) => false,
+    }
+}
+
+// Takes one of the last ranges of two lists, the one that begins lower.
+fn take_lower(ranges: &mut Vec<Range>, others: &mut Vec<Range>) -> Option<Range>
+    ensures some { IfSome result (λ range. HasTakenOne range ranges.old.items ranges.new.items others.old.items others.new.items) }
+    ensures none { IfNone result ((ranges.old.items ≡ []) × (others.old.items ≡ [])) }
+{
+    if is_last_lower(ranges.as_slice(), others.as_slice()) {
+        ranges.pop()
+    } else {
+        others.pop()
+    }
+}
+
+// Unites a range with a list that has room for it.
+pub(crate) fn add_with_room(ranges: &mut Vec<Range>, range: Range)
+    requires normal { IsNormal ranges.old.items }
+    requires room { vec_len ranges.old < vec_capacity ranges.old }
+    ensures normal { IsNormal ranges.new.items }
+    ensures added { (key : List ℕ) → InAny ranges.new.items key ↔ (InAny ranges.old.items key ⊎ InRange range key) }
+    ensures len { vec_len ranges.new ≤ vec_len ranges.old + 1 }
+    ensures capacity { vec_capacity ranges.old ≤ vec_capacity ranges.new }
+{
+    if !is_non_empty(&range) {
+        return;
+    }
+    match unite(ranges, range) {
+        Ok(()) => {}
+        Err(_) => unreachable!(),
+    }
 }
 
 // Replaces the ranges from one place up to another by the one that holds their keys and those of `range`.

@@ -1,13 +1,14 @@
-use Rattle.std.proofs.Common.{◌≡◌, ℕ, ◌+◌, ◌≤◌, length, List, ◌⊎◌, ◌↔◌, vec_capacity, vec_len}
-use Rattle.std.specs.Vec.Iter.{into_iter_items, into_iter_len}
+use Rattle.std.proofs.Common.{ℕ, ◌+◌, ◌≤◌, length, List, ◌⊎◌, ◌↔◌, vec_capacity, vec_len}
 use Rattle.hc_range.specs.Ranges.{InAny, IsNormal}
 use Rattle.hc_range.proofs.union.unite_all.Given as goal
 
+-- what is united and what is left of the two lists hold the keys of the two
 abbrev pub invariant-loop-range : goal.invariant-loop-range
 invariant-loop-range l = record {
-  normal : IsNormal l.ranges.items;
-  rest_normal : IsNormal (into_iter_items l.range-iterator);
-  added : (key : List ℕ) → (InAny l.ranges.items key ⊎ InAny (into_iter_items l.range-iterator) key) ↔ (InAny l.fn.ranges.items key ⊎ InAny l.fn.others.items key);
-  counted : length (into_iter_items l.range-iterator) ≡ into_iter_len l.range-iterator;
-  room : vec_len l.ranges + into_iter_len l.range-iterator ≤ vec_capacity l.ranges;
+  normal : IsNormal l.out.items;
+  added : (key : List ℕ) → (InAny l.out.items key ⊎ (InAny l.ranges.items key ⊎ InAny l.others.items key)) ↔ (InAny l.fn.ranges.items key ⊎ InAny l.fn.others.items key);
+  room : vec_len l.out + (length l.ranges.items + length l.others.items) ≤ vec_capacity l.out;
 }
+
+abbrev pub decreases-loop-range : goal.decreases-loop-range
+decreases-loop-range l = length l.ranges.items + length l.others.items

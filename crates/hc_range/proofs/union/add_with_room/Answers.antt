@@ -1,6 +1,6 @@
 use Rattle.std.proofs.Common.{inl, ⊎_elim}
 use Rattle.hc_range.proofs.Searched.{empty_holds_none}
-use Rattle.hc_range.proofs.prepared.add_with_room.Goals as goal
+use Rattle.hc_range.proofs.union.add_with_room.Goals as goal
 
 pub returns-then-not-is_non_empty-clause-added : goal.returns-then-not-is_non_empty-clause-added
 returns-then-not-is_non_empty-clause-added c = λ key. (
