@@ -1,6 +1,6 @@
 -- Words: each word of the engine's table as a number, and which forms there are. Page, logical and commit numbers are
 -- counted from 1, and so are ordinals; a stamp and a snapshot may be 0.
-use Rattle.std.specs.Prelude.{ℕ, ◌+◌, ◌*◌, ◌^◌, ◌<◌, ⊤}
+use Rattle.std.specs.Prelude.{ℕ, ◌+◌, ◌*◌, ◌^◌, ◌<◌, ◌≢◌, ⊤}
 use Rattle.hc_base.specs.declared.map_word.MapWord.{MapWord}
 use Rattle.hc_base.specs.declared.map_word.MapWord.TheVariants as map
 use Rattle.hc_base.specs.declared.page_word.PageWord.{PageWord}
@@ -13,6 +13,10 @@ use Rattle.hc_base.specs.declared.tid_word.TidWord.TheVariants as tid
 -- a tag in the top 8 bits, a seat in bits 32 to 39, and a number in the low 32
 abbrev pub word_of_parts : ℕ → ℕ → ℕ → ℕ
 word_of_parts tag at number = tag * 2 ^ 56 + at * 2 ^ 32 + number
+
+-- no tag, seat and number make this word
+abbrev pub HasNoParts : ℕ → Type 0
+HasNoParts word = (tag at number : ℕ) → tag < 2 ^ 8 → at < 2 ^ 8 → number < 2 ^ 32 → word_of_parts tag at number ≢ word
 
 -- a seat and the next number of its thread, 0 at the end
 abbrev pub IsThread : ℕ → ℕ → Type 0

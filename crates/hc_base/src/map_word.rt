@@ -39,10 +39,7 @@ impl MapWord {
         ensures some { IfSome result (λ form. IsMapWord form × (map_word form ≡ word)) }
         ensures none { IfNone result ((form : Form) → IsMapWord form → map_word form ≢ word) }
     {
-        let parts = Parts::of(word);
-        if parts.unused > 0 {
-            return None;
-        }
+        let parts = Parts::of(word)?;
         match (parts.tag, parts.seat, parts.number) {
             (0, 0, 0) => Some(MapWord::Free),
             (1, seat, next) => Some(MapWord::Claimed { seat, next }),

@@ -42,10 +42,7 @@ impl PageWord {
         ensures some { IfSome result (λ form. IsPageWord form × (page_word form ≡ word)) }
         ensures none { IfNone result ((form : Form) → IsPageWord form → page_word form ≢ word) }
     {
-        let parts = Parts::of(word);
-        if parts.unused > 0 {
-            return None;
-        }
+        let parts = Parts::of(word)?;
         match (parts.tag, parts.seat, parts.number) {
             (0, 0, 0) => Some(PageWord::Free),
             (1, seat, next) => Some(PageWord::Owned { seat, next }),

@@ -1,12 +1,11 @@
 //! The parts of a word of the map, of a page or of a seat.
-ghost use Rattle.std.specs.Prelude.{◌≡◌, ◌+◌, ◌*◌, ◌^◌};
-ghost use Rattle.hc_base.specs.Words.{word_of_parts};
+ghost use Rattle.std.specs.Prelude.{◌≡◌, IfSome, IfNone};
+ghost use Rattle.hc_base.specs.Words.{HasNoParts, word_of_parts};
 
-/// A tag in the top 8 bits, 16 bits that no form uses, a seat in bits 32 to 39, and a number in the low 32.
+/// A tag in the top 8 bits, a seat in bits 32 to 39, and a number in the low 32.
 #[derive(Debug, Clone, Copy, PartialEq, Eq)]
 pub struct Parts {
     pub tag: u8,
-    pub unused: u16,
     pub seat: u8,
     pub number: u32,
 }
@@ -18,16 +17,19 @@ const UNUSED: u64 = 1 << 40;
 const SEAT: u64 = 1 << 32;
 
 impl Parts {
-    /// The parts of a word.
-    pub fn of(word: u64) -> Parts
-        ensures { word ≡ word_of_parts result.tag result.seat result.number + result.unused * 2 ^ 40 }
+    /// The parts of a word, or `None` where one of the 16 bits is set that no form uses.
+    pub fn of(word: u64) -> Option<Parts>
+        ensures some { IfSome result (λ parts. word ≡ word_of_parts parts.tag parts.seat parts.number) }
+        ensures none { IfNone result (HasNoParts word) }
     {
-        Parts {
+        if word % TAG / UNUSED > 0 {
+            return None;
+        }
+        Some(Parts {
             tag: (word / TAG) as u8,
-            unused: (word % TAG / UNUSED) as u16,
             seat: (word % UNUSED / SEAT) as u8,
             number: (word % SEAT) as u32,
-        }
+        })
     }
 }
 

@@ -35,10 +35,7 @@ impl SeatWord {
         ensures some { IfSome result (λ form. IsSeatWord form × (seat_word form ≡ word)) }
         ensures none { IfNone result ((form : Form) → IsSeatWord form → seat_word form ≢ word) }
     {
-        let parts = Parts::of(word);
-        if parts.unused > 0 {
-            return None;
-        }
+        let parts = Parts::of(word)?;
         match (parts.tag, parts.seat, parts.number) {
             (0, 0, 0) => Some(SeatWord::Idle),
             (1, 0, 0) => Some(SeatWord::Starting),
