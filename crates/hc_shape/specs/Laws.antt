@@ -1,0 +1,50 @@
+-- What follows from the definitions alone. Each law is the contract of a function that does nothing.
+use Rattle.std.specs.Prelude.{◌≡◌, ℕ, List, ◌∷◌, ◌++◌, None}
+use Rattle.std.specs.List.{All}
+use Rattle.hc_range.specs.Order.{IsAtMost, IsBelow}
+use Rattle.hc_base.specs.declared.numbers.Logical.{Logical}
+use Rattle.hc_base.specs.Content.{Content, Entry}
+use Rattle.hc_base.specs.Lookup.{but}
+use Rattle.hc_page.specs.Puts.{put_entry}
+use Rattle.hc_shape.specs.Halves.{CanHalve, HalvesFit, IsCut, IsPlace}
+use Rattle.hc_shape.specs.Leaves.{CanCut, LowsAscend, moved, number_of, with_next}
+use Rattle.hc_shape.specs.Versions.{HasPut, HasPutHalved, HasUnput}
+
+-- A cut moves the keys of one number from the cut on to the new one; each other key stays where it was.
+abbrev pub ACutMovesKeys : Type 0
+ACutMovesKeys = (low : ℕ → List ℕ) (numbers : List ℕ) (at new : ℕ) (cut : List ℕ) → CanCut low numbers at new cut
+    → (key : List ℕ) → number_of (but low new cut) key (with_next at new numbers) ≡ moved at new cut key (number_of low key numbers)
+
+-- and the low fences ascend after it
+abbrev pub ACutKeepsOrder : Type 0
+ACutKeepsOrder = (low : ℕ → List ℕ) (numbers : List ℕ) (at new : ℕ) (cut : List ℕ) → CanCut low numbers at new cut
+    → LowsAscend (but low new cut) (with_next at new numbers)
+
+-- An entry that is put in its key's place is the version of its key, and changes no other key's.
+abbrev pub APutIsOfOneKey : Type 0
+APutIsOfOneKey = (es : List Entry) (e : Entry) → HasPut es (put_entry e es) e
+
+-- So it is where the list is cut in two, and the cut parts the keys.
+abbrev pub ACutPutIsOfOneKey : Type 0
+ACutPutIsOfOneKey = (old left right : List Entry) (cut : List ℕ) (e : Entry)
+    → All (λ x. IsBelow x.key cut) left → All (λ x. IsAtMost cut x.key) right → left ++ right ≡ put_entry e old
+    → HasPutHalved old left right cut e
+
+-- An entry that is taken out leaves its key without one, and changes no other key's.
+abbrev pub AnUnputIsOfOneKey : Type 0
+AnUnputIsOfOneKey = (before after : List Entry) (e : Entry)
+    → All (λ x. IsBelow x.key e.key) before → All (λ x. IsBelow e.key x.key) after
+    → HasUnput (before ++ (e ∷ after)) (before ++ after) e.key None
+
+-- Where one small entry more than fits is put, both halves of the cut fit.
+abbrev pub TheHalvesFit : Type 0
+TheHalvesFit = (c : Content) (e : Entry) (fresh : Logical) (k : ℕ) → CanHalve c e → IsCut c fresh (put_entry e c.entries) k
+    → HalvesFit c fresh (put_entry e c.entries) k
+
+-- There is such a place, and there is one cut at most.
+abbrev pub SomePlaceFits : Type 0
+SomePlaceFits = (c : Content) (e : Entry) (fresh : Logical) → CanHalve c e
+    → (k : ℕ) × IsPlace c (put_entry e c.entries) k × HalvesFit c fresh (put_entry e c.entries) k
+
+abbrev pub OneCut : Type 0
+OneCut = (c : Content) (fresh : Logical) (es : List Entry) (j k : ℕ) → IsCut c fresh es j → IsCut c fresh es k → j ≡ k
