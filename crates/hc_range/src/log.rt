@@ -11,10 +11,10 @@ use std::marker::Model;
 /// The set of keys that a transaction has read. A contract sees the list of its ranges, which is the one
 /// normal form of the set: ascending, none empty, no two that overlap or touch.
 ///
-/// [`ReadLog::covers`] and [`ReadLog::includes`] make one binary search. So does [`ReadLog::add`] where
-/// the range is after all others, and then it pushes: it moves no other range, and takes memory for
-/// the two ends, and for the list where its room is used up. Elsewhere it searches a second time, among
-/// the ranges after the place, and these move up or down.
+/// [`ReadLog::covers`] and [`ReadLog::includes`] make one binary search. Where the range is after all others
+/// [`ReadLog::add`] makes none and pushes: it moves no other range, and takes memory for the two ends, and
+/// for the list where its room is used up. Elsewhere it searches twice, and the ranges after the place move
+/// up or down. [`ReadLog::join`] makes one pass over both lists, and takes memory for a list of both.
 #[derive(Debug, Drop)]
 pub struct ReadLog {
     ranges: Vec<Range>,
@@ -104,8 +104,8 @@ impl ReadLog {
         unite(&mut self.ranges, copy)
     }
 
-    /// Covers the keys of another log too. When memory runs out the log is as before: room for all
-    /// of the other log's ranges is reserved first, and then they move in one after another.
+    /// Covers the keys of another log too. When memory runs out the log is as before: room for the ranges of
+    /// both is taken first, and then they move in, the lower one first.
     pub fn join(&mut self, other: ReadLog) -> Result<(), NoMemory>
         ensures joined { OnOk result ((key : List ℕ) →
             InAny self.new key ↔ (InAny self.old key ⊎ InAny other key)) }
