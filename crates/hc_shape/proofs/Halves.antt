@@ -10,7 +10,7 @@ use Rattle.hc_base.specs.Content.{Content, Entry, IsFence, OfSome}
 use Rattle.hc_base.specs.Layout.{all_words, entry_words, fence_words, low_words, used_words}
 use Rattle.hc_base.proofs.Places.{words_of-length}
 use Rattle.hc_page.specs.Puts.{put_entry}
-use Rattle.hc_shape.specs.Halves.{CanHalve, cut_at, HalvesFit, IsCut, IsPlace, IsSmall, larger, least_of, left_half, right_half}
+use Rattle.hc_shape.specs.Halves.{CanHalve, cut_at, HalvesFit, IsCut, IsPlace, IsSmall, larger, least_in_half, left_half, right_half}
 
 -- what entries take of a page, in quarters of a word: their words, and a place in the directory each
 abbrev cost : List Entry → ℕ
@@ -143,7 +143,7 @@ module _ (c : Content) (e : Entry) (fresh : Logical) (h : CanHalve c e) where
   room = omega (arith, cost_put e c.entries, cost_is c.entries, h.new_small.0, h.fits, low_most, high_most)
 
   -- there are enough entries for both halves
-  enough : (level low : ℕ) → low ≤ 58 → ((level ≡ 0) ⊎ (low ≡ 0)) → 256 < 4 + (length es + 3) / 4 + low + high + length (all_words es) → least_of level + least_of level ≤ length es
+  enough : (level low : ℕ) → low ≤ 58 → ((level ≡ 0) ⊎ (low ≡ 0)) → 256 < 4 + (length es + 3) / 4 + low + high + length (all_words es) → least_in_half level + least_in_half level ≤ length es
   enough zero low most by_level over = omega (arith, cost_is es, cost_most es small, high_most, most, over)
   enough (suc level) low most (inl leaf) over = absurd (omega (arith, leaf))
   enough (suc level) low most (inr none) over = omega (arith, cost_is es, cost_most es small, high_most, none, over)
@@ -152,7 +152,7 @@ module _ (c : Content) (e : Entry) (fresh : Logical) (h : CanHalve c e) where
   by_level zero fence = inl refl
   by_level (suc level) fence = inr refl
 
-  least_small : (level : ℕ) → (level ≡ 0) ⊎ (low ≡ 0) → (241 * least_of level ≤ 773 - 4 * low) × (241 * least_of level ≤ 773 - 4 * high)
+  least_small : (level : ℕ) → (level ≡ 0) ⊎ (low ≡ 0) → (241 * least_in_half level ≤ 773 - 4 * low) × (241 * least_in_half level ≤ 773 - 4 * high)
   least_small zero by = (omega (arith, low_most), omega (arith, high_most))
   least_small (suc level) (inl leaf) = absurd (omega (arith, leaf))
   least_small (suc level) (inr none) = (omega (arith, none), omega (arith, high_most))
@@ -162,9 +162,9 @@ module _ (c : Content) (e : Entry) (fresh : Logical) (h : CanHalve c e) where
   take_short (suc k) [] = omega arith
   take_short (suc k) (x ∷ xs) = omega (arith, take_short k xs)
 
-  chosen : Chosen es (least_of c.level) (773 - 4 * low) (773 - 4 * high)
+  chosen : Chosen es (least_in_half c.level) (773 - 4 * low) (773 - 4 * high)
   chosen =
-      let least = least_of c.level in
+      let least = least_in_half c.level in
       let two : least + least ≤ length es = enough c.level low low_most (by_level c.level c.low) h.over in
       let sizes = least_small c.level (by_level c.level c.low) in
       let first : cost (take least es) ≤ 773 - 4 * low =

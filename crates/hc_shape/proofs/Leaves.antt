@@ -4,7 +4,7 @@ use Rattle.std.specs.List.{All}
 use Rattle.std.proofs.lemmas.Bool.{cases_Bool, cases_eq, cond_both, eq-eqb, ne_eqb, true≢false}
 use Rattle.std.proofs.lemmas.List.Elements.{All-cons, All-head, All-nil, All-tail}
 use Rattle.hc_range.specs.Order.{is_below, IsBelow}
-use Rattle.hc_range.proofs.ByteOrder.{below_irrefl, below_trans}
+use Rattle.hc_range.proofs.ByteOrder.{at_most_trans, below_flip, below_irrefl, below_trans}
 use Rattle.hc_base.specs.Content.{Ascends}
 use Rattle.hc_base.specs.Lookup.{Among, but}
 use Rattle.hc_base.proofs.Lookups.{but-same, but-other}
@@ -206,3 +206,23 @@ ascends_still low (here ∷ more) at new cut h =
       | inr differ ↦
           rw (ne_eqb here at differ) (after_other low at new cut here more h (ascends_still low more at new cut (right_of_here low at new cut here more h differ)))
     ]
+
+-- of a number and those to the right of it
+own_in : (low : ℕ → List ℕ) (key : List ℕ) (n here : ℕ) (more : List ℕ) → LowsAscend low (here ∷ more) → Among n (here ∷ more) → is_below key (low n) ≡ false
+    → ((m : ℕ) → Among m (here ∷ more) → IsBelow (low n) (low m) → IsBelow key (low m)) → number_in low key here more ≡ n
+own_in low key n here [] up (inl is) from beyond = sym is
+own_in low key n here [] up (inr none) from beyond = absurd none
+own_in low key n here (m ∷ later) up (inl is) from beyond =
+    let less : IsBelow (low n) (low m) = subst (λ a. IsBelow (low a) (low m)) (sym is) (All-head (λ other. IsBelow (low here) other) (low m) (map low later) up.0) in
+    rw (beyond m (inr (inl refl)) less) (sym is)
+own_in low key n here (m ∷ later) up (inr there) from beyond =
+    rw (at_most_trans (low m) (low n) key (lowest there) from) (own_in low key n m later up.1 there from (λ k among. beyond k (inr among)))
+  where
+    lowest : Among n (m ∷ later) → is_below (low n) (low m) ≡ false
+    lowest (inl is) = subst (λ a. is_below (low a) (low m) ≡ false) (sym is) (below_irrefl (low m))
+    lowest (inr after) = below_flip (low m) (low n) (each_above low (low m) later n up.1.0 after)
+
+pub own_number : (low : ℕ → List ℕ) (numbers : List ℕ) (key : List ℕ) (n : ℕ) → LowsAscend low numbers → Among n numbers → is_below key (low n) ≡ false
+    → ((m : ℕ) → Among m numbers → IsBelow (low n) (low m) → IsBelow key (low m)) → number_of low key numbers ≡ n
+own_number low [] key n up there from beyond = absurd there
+own_number low (here ∷ more) key n up there from beyond = own_in low key n here more up there from beyond

@@ -1,3 +1,5 @@
+pub mod HalfContents
 pub mod Halves
+pub mod Least
 pub mod Leaves
 pub mod Versions

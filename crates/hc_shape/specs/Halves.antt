@@ -2,7 +2,7 @@
 use Rattle.std.specs.Prelude.{◌<◌, ◌≤◌, ℕ, zero, suc, ◌+◌, List, [], length, take, drop, slice_index_or, Some, cond, leb}
 use Rattle.std.specs.List.{All}
 use Rattle.hc_base.specs.declared.numbers.Logical.{Logical}
-use Rattle.hc_base.specs.Content.{Content, Entry, IsFence, OfSome, keys}
+use Rattle.hc_base.specs.Content.{Ascends, BeginsAt, Content, Entry, IsEntryOf, IsFence, IsWithin, OfSome, keys}
 use Rattle.hc_base.specs.Layout.{entry_words, used_words}
 use Rattle.hc_page.specs.Puts.{with_entry}
 
@@ -19,13 +19,13 @@ abbrev pub right_half : Content → Logical → List Entry → ℕ → Content
 right_half c fresh es k = record c { own = fresh; low = cut_at es k; entries = drop k es }
 
 -- how many entries a half has at least: a leaf's one, and an inner page's two
-abbrev pub least_of : ℕ → ℕ
-least_of zero = 1
-least_of (suc level) = 2
+abbrev pub least_in_half : ℕ → ℕ
+least_in_half zero = 1
+least_in_half (suc level) = 2
 
 -- a place where the entries can be cut
 abbrev pub IsPlace : Content → List Entry → ℕ → Type 0
-IsPlace c es k = (least_of c.level ≤ k) × (k + least_of c.level ≤ length es)
+IsPlace c es k = (least_in_half c.level ≤ k) × (k + least_in_half c.level ≤ length es)
 
 -- both halves fit a page
 abbrev pub HalvesFit : Content → Logical → List Entry → ℕ → Type 0
@@ -46,6 +46,14 @@ pub record IsCut (c : Content) (fresh : Logical) (es : List Entry) (k : ℕ) : T
 -- an entry has at most 60 words, and a key of at most 463 bytes
 abbrev pub IsSmall : Entry → Type 0
 IsSmall e = (length (entry_words e) ≤ 60) × (length e.key ≤ 463)
+
+-- entries that a page of this level and these fences can have
+pub record AreEntriesOf (c : Content) (es : List Entry) : Type 0 where
+  pub each : All (IsEntryOf c.level) es
+  pub small : All IsSmall es
+  pub ascending : Ascends (keys es)
+  pub within : All (IsWithin c.low c.high) (keys es)
+  pub begins : BeginsAt c.level c.low (keys es)
 
 -- A page of small entries that fits has no room for one small entry more.
 pub record CanHalve (c : Content) (e : Entry) : Type 0 where

@@ -1,4 +1,4 @@
-//! What holds of the contents of all pages together, and what a halving makes of a page's content.
+//! Which number of a level has a key, what a put, a put with a halving and an unput change, and where a page is cut.
 //!
 //! Definitions and laws over contents, and no code that runs: which number of a level has a key and how a cut changes
 //! that (`specs/Leaves.antt`), what the entries of a leaf have for each key and how a put and an unput change that
