@@ -1,5 +1,6 @@
 -- What a commit answers, and what its desk's account has then.
 use Rattle.std.specs.Prelude.{◌≡◌, ◌≢◌, ℕ, ◌<◌, ◌≤◌, ◌⊎◌, true, List, [], ◌∷◌}
+use Rattle.hc_base.specs.declared.full.Full.{Full as FullOf}
 use Rattle.hc_base.specs.declared.numbers.Cid.{Cid}
 use Rattle.hc_range.specs.declared.range.Range.{Range}
 use Rattle.hc_core.specs.Account.{Txn}
@@ -50,6 +51,11 @@ HasSucceeded conn ord most txn (RolledBack snapshot) before after = ⊥
 abbrev pub HasFailed : ℕ → ℕ → ℕ → Transaction → CommitFault → List Entry → List Entry → Type 0
 HasFailed conn ord most txn fault before after = ((fault ≡ NoMemory) × (after ≡ before))
     ⊎ ((writes : List Write) × AreNetWritesOf before txn writes × (writes ≢ []) × HasGivenUp conn ord most txn.log writes fault before after)
+
+-- what was full is something that the desk may find full
+abbrev pub IsFullFor : (FullOf → Type 0) → CommitFault → Type 0
+IsFullFor fills (Full full) = fills full
+IsFullFor fills fault = Unit {0}
 
 -- a commit number is above what was seen, and seen then
 abbrev pub IsNewNumber : Ending → ℕ → ℕ → Type 0

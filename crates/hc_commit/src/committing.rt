@@ -11,7 +11,7 @@ ghost use Rattle.hc_core.specs.declared.outcome.Outcome.TheVariants.{Done};
 ghost use Rattle.hc_txn.specs.Transactions.{IsOf};
 ghost use Rattle.hc_transcript.specs.declared.reply.Ending.TheVariants.{RolledBack};
 ghost use Rattle.hc_commit.specs.Checks.{HasSettled};
-ghost use Rattle.hc_commit.specs.Commit.{HasCommitted, HasEndedBare, HasFailed, HasGivenUp, HasSucceeded, IsNewNumber};
+ghost use Rattle.hc_commit.specs.Commit.{HasCommitted, HasEndedBare, HasFailed, HasGivenUp, HasSucceeded, IsFullFor, IsNewNumber};
 ghost use Rattle.hc_commit.specs.Entries.{with_puts, with_unputs};
 ghost use Rattle.hc_commit.specs.Giving.{HasMet};
 ghost use Rattle.hc_commit.specs.Stages.{HasNonePut, HasOnlyReadIn, IsReady, IsRoomy};
@@ -87,6 +87,7 @@ fn commit_net<D: Desk>(net: Net, desk: &mut D, ord: u32) -> Result<Cid, CommitFa
     ensures committed { IfOk result (λ number. HasCommitted (D.conn desk.old) ord (D.most desk.old) net.log net.writes.items number (D.account desk.old) (D.account desk.new)) }
     ensures number { IfOk result (λ number. (D.seen desk.old < number.0) × (number.0 ≤ D.seen desk.new)) }
     ensures given_up { IfErr result (λ fault. HasGivenUp (D.conn desk.old) ord (D.most desk.old) net.log net.writes.items fault (D.account desk.old) (D.account desk.new)) }
+    ensures full { IfErr result (IsFullFor (D.fills desk.old)) }
     ensures may_end { OnOk result (MayEndNow (D.account desk.new)) }
     ensures none { OnErr result (WhenOpen (txns (D.account desk.new)) HasNonePut) }
     ensures on { GoesOn D.conn D.most D.seen D.later desk.old desk.new }
@@ -110,6 +111,7 @@ fn attempt<D: Desk>(txn: Txn, desk: &mut D, ord: u32) -> Result<Ending, CommitFa
     ensures succeeded { IfOk result (λ ending. HasSucceeded (D.conn desk.old) ord (D.most desk.old) txn ending (D.account desk.old) (D.account desk.new)) }
     ensures number { IfOk result (λ ending. IsNewNumber ending (D.seen desk.old) (D.seen desk.new)) }
     ensures failed { IfErr result (λ fault. HasFailed (D.conn desk.old) ord (D.most desk.old) txn fault (D.account desk.old) (D.account desk.new)) }
+    ensures full { IfErr result (IsFullFor (D.fills desk.old)) }
     ensures may_end { OnOk result (MayEndNow (D.account desk.new)) }
     ensures none { OnErr result (WhenOpen (txns (D.account desk.new)) HasNonePut) }
     ensures on { GoesOn D.conn D.most D.seen D.later desk.old desk.new }
@@ -142,6 +144,7 @@ pub fn commit<D: Desk>(txn: Txn, desk: &mut D, ord: u32) -> Result<Ending, (Comm
     ensures failed { IfErr result (λ fault. (fault.1 ≡ RolledBack txn.snapshot)
         × ((tried : List Entry) × HasFailed (D.conn desk.old) ord (D.most desk.old) txn fault.0 (D.account desk.old) tried
         × (D.account desk.new ≡ entry_of (End (D.conn desk.old)) Done ∷ tried))) }
+    ensures full { IfErr result (λ fault. IsFullFor (D.fills desk.old) fault.0) }
     ensures ords { greatest_ord (txns (D.account desk.new)) ≤ ord }
     ensures nothing_put { OnErr result (HasEndedBare (txns (D.account desk.new))) }
     ensures ended { IsIdle (txns (D.account desk.new)) }

@@ -69,6 +69,9 @@ const WRITE_SKEW: &[Line] = &[
     (2, Do::Write(0x62, 0x21), "written"),
     (1, Do::Commit, "commit 1"),
     (2, Do::Commit, "met conn 1 ord 7 key 61, rolled back 0"),
+    (2, Do::Begin, "began 1"),
+    (2, Do::Get(0x62), "none"),
+    (2, Do::Commit, "snapshot 1"),
 ];
 
 // A key comes into a range that was read; then one comes above a range that was read.
@@ -162,9 +165,7 @@ fn play<R: Abort>(rt: &R, alloc: Global, history: &[Line]) -> Result<(), Fail> {
     };
     let mut ord: u32 = 1;
     for line in history {
-        if ord > 131071 {
-            return Ok(());
-        }
+        assert!(rt; ord <= 131071);
         let (next, text) = turn_of(alloc, &mut desk, pair, line.0 == 1, ord, line.1)?;
         pair = next;
         ord += 1;
@@ -185,9 +186,7 @@ fn play_alone<R: Abort, D: Desk>(
     let mut current = None;
     let mut ord: u32 = 1;
     for line in history {
-        if ord > 131071 {
-            return Ok(());
-        }
+        assert!(rt; ord <= 131071);
         let (next, text) = step(alloc, desk, current, ord, line.1)?;
         current = next;
         ord += 1;
