@@ -1,0 +1,7 @@
+mod Actions
+mod Cells
+mod OneLanguage
+mod Placing
+mod Short
+mod TakenForms
+mod Worked

@@ -1,0 +1,6 @@
+pub mod Examples
+pub mod Forms
+pub mod Language
+pub mod Laws
+pub mod Rows
+pub mod Statements
