@@ -21,6 +21,8 @@ use Rattle.hc_commit.specs.Checks.{HasSettled}
 use Rattle.hc_commit.specs.declared.proposal.Proposal.TheVariants.{Won, Refused}
 use Rattle.hc_commit.specs.Entries.{LostProposal, with_checks, with_lost, with_proposal, with_puts}
 use Rattle.hc_commit.specs.Stages.{HasAllPut, HasPut, IsReady, IsRoomy}
+use Rattle.hc_reads.specs.Gathered.{HaveSameKeys}
+use Rattle.hc_commit.proofs.SameLog.{committed_same, given_up_same}
 use Rattle.hc_commit.proofs.Growing.{when_changed, when_open, checks_keep, lost_keep}
 use Rattle.hc_commit.proofs.Putting.{HasPutSome, among_reversed, none_put, puts_stage}
 
@@ -102,15 +104,15 @@ pub net_of : (account : List Entry) (txn : Transaction) (writes : List Write) �
     → ((a : List Entry) → IsOf a txn → (store : Store) → Agrees (reads_of a) store → AreNetWrites txn.own store writes) → AreNetWritesOf account txn writes
 net_of account txn writes of ascending fit net = record { net = λ store agrees. net account of store agrees; ascending = ascending; fit = fit }
 
-pub failed : (conn ord most : ℕ) (txn : Transaction) (log : List Range) (writes : List Write) (fault : CommitFault) (before after : List Entry) → log ≡ txn.log → AreNetWritesOf before txn writes
+pub failed : (conn ord most : ℕ) (txn : Transaction) (log : List Range) (writes : List Write) (fault : CommitFault) (before after : List Entry) → HaveSameKeys txn.log log → AreNetWritesOf before txn writes
     → writes ≢ [] → HasGivenUp conn ord most log writes fault before after → HasFailed conn ord most txn fault before after
 failed conn ord most txn log writes fault before after same net some h =
-    inr (writes, net, some, subst (λ (l : List Range). HasGivenUp conn ord most l writes fault before after) same h)
+    inr (writes, net, some, given_up_same txn.log log same conn ord most writes fault before after h)
 
-pub succeeded : (conn ord most : ℕ) (txn : Transaction) (log : List Range) (writes : List Write) (number : Cid) (before after : List Entry) → log ≡ txn.log → AreNetWritesOf before txn writes
+pub succeeded : (conn ord most : ℕ) (txn : Transaction) (log : List Range) (writes : List Write) (number : Cid) (before after : List Entry) → HaveSameKeys txn.log log → AreNetWritesOf before txn writes
     → writes ≢ [] → HasCommitted conn ord most log writes number before after → HasSucceeded conn ord most txn (Commit number.0) before after
 succeeded conn ord most txn log writes number before after same net some h =
-    (writes, net, some, subst (λ (l : List Range). HasCommitted conn ord most l writes number before after) same h)
+    (writes, net, some, committed_same txn.log log same conn ord most writes number before after h)
 
 pub nothing_done : (conn ord most : ℕ) (txn : Transaction) (snapshot : ℕ) (writes : List Write) (account : List Entry) → snapshot ≡ txn.snapshot → AreNetWritesOf account txn writes → writes ≡ []
     → HasSucceeded conn ord most txn (Snapshot snapshot) account account

@@ -23,7 +23,7 @@ all_below : (key : List ℕ) (cells : List Cell) → ((cell : Cell) → Among ce
 all_below key [] h = tt
 all_below key (c ∷ cells) h = (h c (inl refl), all_below key cells (λ cell a. h cell (inr a)))
 
-below_writes : (key : List ℕ) (writes : List Write) → IsBelowEachWrite key writes → (w : Write) → Among w writes → is_below key w.key ≡ true
+pub below_writes : (key : List ℕ) (writes : List Write) → IsBelowEachWrite key writes → (w : Write) → Among w writes → is_below key w.key ≡ true
 below_writes key [] h w a = absurd a
 below_writes key (x ∷ writes) h w (inl e) = subst (λ (y : Write). is_below key y.key ≡ true) (sym e) h.0
 below_writes key (x ∷ writes) h w (inr a) = below_writes key writes h.1 w a

@@ -14,3 +14,7 @@ pub mod StandingWrites
 pub mod LaidStores
 pub mod NetWrites
 pub mod NetOf
+pub mod LastPut
+pub mod LastRead
+pub mod LastSeen
+pub mod Begun

@@ -5,6 +5,7 @@ use Rattle.hc_range.specs.declared.range.Range.{Range}
 use Rattle.hc_range.specs.Ranges.{InAny, InRange}
 use Rattle.hc_range.proofs.ByteOrder.{below_irrefl, below_flip}
 use Rattle.hc_range.proofs.Ends.{under_down}
+use Rattle.hc_reads.specs.Gathered.{HaveSameKeys}
 use Rattle.hc_core.specs.Account.{PartRead, Txn, WhenOpen, after_read, newest_changed, part_of, txns, LiesInRead}
 use Rattle.hc_core.specs.Desk.{IsReading}
 use Rattle.hc_core.specs.declared.account.Entry.{Entry}
@@ -24,6 +25,15 @@ nothing_logged conn range before after log more e f = record {
   reads = [];
   grown = e;
   logged = λ key. (λ h. inl (subst (λ (l : List Range). InAny l key) f h), λ h. elim h [ inl a ↦ subst (λ (l : List Range). InAny l key) (sym f) a | inr b ↦ absurd (b.1) ]);
+  within = λ key h. absurd (h.1);
+}
+
+-- nothing was read, and the same keys are logged
+pub kept_logged : (conn : ℕ) (range : Range) (before after : List Entry) (log more : List Range) → after ≡ before → HaveSameKeys log more → HasLogged conn range before after log more
+kept_logged conn range before after log more e same = record {
+  reads = [];
+  grown = e;
+  logged = λ key. (λ h. inl ((same key).1 h), λ h. elim h [ inl a ↦ (same key).0 a | inr b ↦ absurd (b.1) ]);
   within = λ key h. absurd (h.1);
 }
 

@@ -67,7 +67,7 @@ module _ (conn : ℕ) (lo : List ℕ) where
 
   module _ (key : List ℕ) (upto : Option (List ℕ)) (from : is_below key lo ≡ false) (under : is_under key upto ≡ true) where
     -- the part below a key, and the part from it on, are the whole
-    two_parts : (k : List ℕ) → InRange (part_of lo upto) k ↔ (InRange (part_of lo (Some key)) k ⊎ InRange (part_of key upto) k)
+    pub two_parts : (k : List ℕ) → InRange (part_of lo upto) k ↔ (InRange (part_of lo (Some key)) k ⊎ InRange (part_of key upto) k)
     two_parts k = (
       λ h. elim (cases_Bool (is_below k key)) [ inl below ↦ inl (h.0, below) | inr above ↦ inr (above, h.1) ],
       λ h. elim h [

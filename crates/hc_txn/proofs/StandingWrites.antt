@@ -1,5 +1,5 @@
 -- The own writes that stand in a range.
-use Rattle.std.proofs.Common.{◌≡◌, ◌∙◌, refl, sym, ap, ℕ, Bool, true, false, cond, not, ◌&&◌, filter, Option, Some, None, List, [], ◌∷◌, bytes_eq, inl, inr, ◌↔◌}
+use Rattle.std.proofs.Common.{◌≡◌, ◌∙◌, refl, sym, ap, subst, ℕ, Bool, true, false, cond, not, ◌&&◌, filter, Option, Some, None, List, [], ◌∷◌, bytes_eq, inl, inr, ◌↔◌}
 use Rattle.std.proofs.lemmas.Bool.{true≢false, cases_Bool}
 use Rattle.std.proofs.lemmas.Slice.Eq.{bytes_eq-Decides}
 use Rattle.hc_range.specs.declared.range.Range.{Range}
@@ -9,6 +9,8 @@ use Rattle.hc_range.proofs.ByteOrder.{below_irrefl}
 use Rattle.hc_core.specs.Desk.{AreAscendingWrites, IsBelowEachWrite}
 use Rattle.hc_base.specs.Lookup.{Among}
 use Rattle.hc_core.specs.declared.cells.Write.{Write}
+use Rattle.hc_txn.specs.Laying.{AreStandingIn}
+use Rattle.hc_txn.specs.Stores.{latest}
 use Rattle.hc_txn.specs.Kept.{Known, AreAbove, AreOrdered, find_known, own_of, now_at}
 use Rattle.hc_txn.specs.Laid.{holds, standing, standing_in, with_standing}
 use Rattle.hc_txn.proofs.KnownKeys.{find_head, find_tail}
@@ -128,3 +130,17 @@ standing_ascends range (k ∷ ks) h = at (holds range k.key) (below_standing ran
         → AreAscendingWrites (standing (cond b (k ∷ filter (λ x. holds range x.key) ks) (filter (λ x. holds range x.key) ks)))
     at true below rest = put k.now below rest
     at false below rest = rest
+
+-- they are the newest writes of the keys in the range
+pub standing_as : (range : Range) (ks : List Known) (own writes : List Write) → ((key : List ℕ) → latest own key ≡ now_at ks key) → writes ≡ standing_in range ks → AreOrdered ks
+    → AreStandingIn range own writes
+standing_as range ks own writes newest e ordered = (
+  subst AreAscendingWrites (sym e) (standing_ascends range ks ordered),
+  λ key rec.
+      let has = stands_in range key rec ks ordered in (
+        λ a.
+            let s = has.0 (subst (λ (ws : List Write). Among (record { key = key; rec = rec }) ws) e a) in
+            ((in_range range key).0 s.0, newest key ∙ s.1),
+        λ s. subst (λ (ws : List Write). Among (record { key = key; rec = rec }) ws) (sym e) (has.1 ((in_range range key).1 s.0, sym (newest key) ∙ s.1)),
+      ),
+)

@@ -8,3 +8,4 @@ pub mod Transactions
 pub mod Reading
 pub mod Marks
 pub mod Writing
+pub mod Lasts

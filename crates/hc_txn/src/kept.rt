@@ -1,12 +1,13 @@
 // The keys that a transaction has written, in order.
-ghost use Rattle.std.specs.Prelude.{◌≡◌, ◌++◌, [], None, Some, IsSome, IfOk, MatchOption, OnOk, OnErr, map};
+ghost use Rattle.std.specs.Prelude.{◌≡◌, ◌↔◌, IsTrue, ◌++◌, [], None, Some, IsSome, IfOk, MatchOption, OnOk, OnErr, map};
 ghost use Rattle.hc_range.specs.Ranges.{InRange};
 ghost use Rattle.hc_txn.specs.Kept.{AreOrdered, find_known, now_at, with_known, with_now};
 ghost use Rattle.hc_txn.specs.Laid.{standing, standing_in};
+ghost use Rattle.hc_txn.specs.Laying.{IsLastPut, PutsNothing};
 ghost use Rattle.hc_txn.specs.Net.{net, same_record, with_net};
 
 use crate::copying::copy_kept;
-use hc_core::Write;
+use hc_core::{Cell, Write};
 use hc_range::{Bytes, NoMemory, Range};
 use std::alloc::Global;
 use std::collections::{BTreeMap, btree_map};
@@ -81,6 +82,29 @@ impl KeptKeys {
     {
         let KeptKeys { tree } = self;
         net_of(alloc, tree)
+    }
+
+    /// The last cell that the own writes put in a range.
+    pub fn last_put(&self, alloc: Global, range: &Range) -> Result<Option<Cell>, NoMemory>
+        requires { InRange range.now range.now.lo }
+        ensures last { IfOk result (λ cell. IsLastPut (standing_in range.now self.now) cell) }
+        ensures ordered { OnOk result (AreOrdered self.now) }
+    {
+        let lo = Vec::from_slice(alloc, range.lo.as_slice())?;
+        match &range.hi {
+            Some(hi) => {
+                let hi = Vec::from_slice(alloc, hi.as_slice())?;
+                last_put(
+                    alloc,
+                    self.tree
+                        .range((Bound::Included(&lo), Bound::Excluded(&hi))),
+                )
+            }
+            None => last_put(
+                alloc,
+                self.tree.range((Bound::Included(&lo), Bound::Unbounded)),
+            ),
+        }
     }
 
     /// The own writes that stand in a range, in the order of their keys.
@@ -164,4 +188,39 @@ fn net_of(alloc: Global, tree: BTreeMap<Vec<u8>, Kept>) -> Result<Vec<Write>, No
         push_net(&mut writes, key, kept)?;
     }
     Ok(writes)
+}
+
+/// Whether an own write stands that is a tombstone.
+pub fn is_tombstone(kept: &Kept) -> bool
+    ensures { IsTrue result ↔ (kept.entry.now.now ≡ Some None) }
+{
+    matches!(&kept.now, Some(None))
+}
+
+// The record that an own write puts, where one stands that is no tombstone.
+fn record_put(kept: &Kept) -> Option<&Bytes>
+    ensures { MatchOption result (PutsNothing kept.entry.now.now) (λ rec. kept.entry.now.now ≡ Some (Some rec.now)) }
+{
+    match &kept.now {
+        Some(Some(rec)) => Some(rec),
+        _ => None,
+    }
+}
+
+// The last cell that the own writes at kept keys put.
+fn last_put(
+    alloc: Global,
+    mut keys: btree_map::Range<'_, Vec<u8>, Kept>,
+) -> Result<Option<Cell>, NoMemory>
+    ensures { IfOk result (λ cell. IsLastPut (standing (map (λ e. record { key = e.0.items; before = e.1.before; now = e.1.now }) keys.entry)) cell) }
+{
+    while let Some((key, kept)) = keys.next_back() {
+        let Some(rec) = record_put(kept) else {
+            continue;
+        };
+        let key = Bytes::from_slice(alloc, key.as_slice())?;
+        let rec = Bytes::from_slice(alloc, rec.as_slice())?;
+        return Ok(Some(Cell { key, rec }));
+    }
+    Ok(None)
 }

@@ -8,6 +8,7 @@
 mod copying;
 mod kept;
 mod laid;
+mod lasts;
 mod logged;
 mod marks;
 mod own;

@@ -10,12 +10,13 @@ ghost use Rattle.hc_txn.specs.Transactions.{LogsKeyToo, LogsRangeToo};
 
 use crate::reading::{HowFar, read_range};
 use hc_core::{Cell, Desk, Part};
-use hc_range::{Bytes, NoMemory, Prepared, Range, ReadLog, contains};
+use hc_range::{Bytes, NoMemory, Range, contains};
+use hc_reads::{Prepared, Reads};
 use sqlite_items::Items;
 use std::alloc::{AllocError, Global};
 
 // The log that covers what was read too.
-fn united(prepared: Prepared, how_far: &HowFar) -> ReadLog
+fn united(prepared: Prepared, how_far: &HowFar) -> Reads
     ensures { (key : List ℕ) → InAny result key ↔ (InAny prepared.log key ⊎ IsReadSoFar prepared.range how_far.now key) }
 {
     match how_far {
@@ -32,7 +33,7 @@ fn read_prepared<D: Desk>(
     desk: &mut D,
     range: &Range,
     out: &mut Part,
-) -> (ReadLog, Result<(), NoMemory>)
+) -> (Reads, Result<(), NoMemory>)
     requires reading { IsReading (D.account desk.old) }
     requires some { InRange range.now range.now.lo }
     requires prepared { prepared.range ≡ range.now }
@@ -52,7 +53,7 @@ fn read_prepared<D: Desk>(
 
 /// Reads a range, adds its cells to `out`, and logs what was read, which without memory may be a part of it.
 pub fn read_logged<D: Desk>(
-    log: &mut ReadLog,
+    log: &mut Reads,
     alloc: Global,
     desk: &mut D,
     range: &Range,
@@ -68,7 +69,7 @@ pub fn read_logged<D: Desk>(
     if !contains(range, range.lo.as_slice()) {
         return Ok(());
     }
-    let taken = std::mem::replace(log, ReadLog::new(alloc));
+    let taken = std::mem::replace(log, Reads::new(alloc));
     match taken.prepare(range) {
         Ok(prepared) => {
             let (after, done) = read_prepared(prepared, alloc, desk, range, out);
@@ -111,7 +112,7 @@ fn record_in(part: Part, key: &[u8]) -> Option<Bytes>
 
 /// Reads and logs one key: its record, if it has one.
 pub fn read_key<D: Desk>(
-    log: &mut ReadLog,
+    log: &mut Reads,
     alloc: Global,
     desk: &mut D,
     key: &[u8],

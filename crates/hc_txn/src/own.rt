@@ -1,5 +1,5 @@
 // The own writes of a transaction.
-ghost use Rattle.std.specs.Prelude.{◌≡◌, ◌≢◌, ◌⊎◌, ◌↔◌, ◌-◌, ◌≤◌, [], ◌∷◌, Some, None, MatchOption, IfOk, OnOk, OnErr, length, drop, true};
+ghost use Rattle.std.specs.Prelude.{◌≡◌, ◌≢◌, ◌⊎◌, ◌↔◌, ◌-◌, ◌≤◌, [], ◌∷◌, Some, None, MatchOption, IfOk, OnOk, OnErr, IsTrue, length, drop, true};
 ghost use Rattle.std.specs.Option.{option_copied};
 ghost use Rattle.hc_base.specs.Entries.{entry_fits};
 ghost use Rattle.hc_core.specs.Account.{HoldsKey, record_of};
@@ -8,15 +8,15 @@ ghost use Rattle.hc_base.specs.Lookup.{Among};
 ghost use Rattle.hc_core.specs.declared.cells.Write.{Write};
 ghost use Rattle.hc_range.specs.Ranges.{InRange};
 ghost use Rattle.hc_core.specs.Versions.{AreAscending};
-ghost use Rattle.hc_txn.specs.Laying.{AreStandingIn, HasLaid};
+ghost use Rattle.hc_txn.specs.Laying.{AreStandingIn, HasLaid, IsLastOwn};
 ghost use Rattle.hc_txn.specs.Net.{IsNetOf};
 ghost use Rattle.hc_txn.specs.Stores.{latest};
 ghost use Rattle.hc_txn.specs.Transactions.{earlier};
 
 use crate::copying::{copy_bytes, copy_rec};
-use crate::kept::{Kept, KeptKeys};
+use crate::kept::{Kept, KeptKeys, is_tombstone};
 use crate::laid::lay_over;
-use hc_core::{Part, Write};
+use hc_core::{Cell, Part, Write};
 use hc_range::{Bytes, NoMemory, Range};
 use std::alloc::Global;
 use std::marker::Model;
@@ -126,12 +126,30 @@ impl OwnWrites {
         }
     }
 
+    /// Whether the newest own write of a key is a tombstone.
+    pub fn clears(&self, key: &[u8]) -> bool
+        ensures { IsTrue result ↔ (latest self.now.own key.now ≡ Some None) }
+    {
+        match self.find(key) {
+            Some(kept) => is_tombstone(kept),
+            None => false,
+        }
+    }
+
     // The own writes that stand in a range, in the order of their keys.
     fn standing_in(&self, alloc: Global, range: &Range) -> Result<Vec<Write>, NoMemory>
         requires { InRange range.now range.now.lo }
         ensures { IfOk result (λ writes. AreStandingIn range.now self.now.own writes.items) }
     {
         self.keys.standing_in(alloc, range)
+    }
+
+    /// The last cell that the own writes put in a range.
+    pub fn last_put(&self, alloc: Global, range: &Range) -> Result<Option<Cell>, NoMemory>
+        requires { InRange range.now range.now.lo }
+        ensures { IfOk result (λ cell. IsLastOwn range.now self.now.own cell) }
+    {
+        self.keys.last_put(alloc, range)
     }
 
     /// Adds the cells of a range as they are with the own writes over them. Of `out` nothing is said without memory.

@@ -1,12 +1,17 @@
 // One transaction over any desk.
-ghost use Rattle.std.specs.Prelude.{◌≡◌, ◌≢◌, List, ℕ, ◌+◌, [], ◌∷◌, None, Some, true, false, length, IfOk, IfErr, OnOk, OnErr, IsOk};
+ghost use Rattle.std.specs.Prelude.{◌≡◌, ◌≢◌, ◌≤◌, List, ℕ, ◌+◌, [], ◌∷◌, None, Some, true, false, length, IfOk, IfErr, OnOk, OnErr, IsOk};
 ghost use Rattle.std.specs.Option.{option_copied, unwrap_or};
 ghost use Rattle.hc_base.specs.Entries.{entry_fits};
-ghost use Rattle.hc_range.specs.Ranges.{IsNormal};
-ghost use Rattle.hc_core.specs.Account.{HoldsKey, record_of};
+ghost use Rattle.hc_range.specs.Ranges.{InRange};
+ghost use Rattle.hc_reads.specs.Gathered.{HaveSameKeys};
+ghost use Rattle.hc_core.specs.Account.{HoldsKey, IsIdle, record_of, txns};
+ghost use Rattle.hc_core.specs.Diary.{entry_of};
 ghost use Rattle.hc_core.specs.Desk.{AreAscendingWrites, EachFits, GoesOn};
 ghost use Rattle.hc_core.specs.declared.account.Entry.{Entry};
+ghost use Rattle.hc_core.specs.declared.event.Event.TheVariants.{Begin};
+ghost use Rattle.hc_core.specs.declared.outcome.Outcome.TheVariants.{Began};
 ghost use Rattle.hc_txn.specs.Net.{AreNetWrites};
+ghost use Rattle.hc_txn.specs.Lasts.{HasSeenLast, IsLastSeen, part_from};
 ghost use Rattle.hc_txn.specs.Laying.{HasSeen};
 ghost use Rattle.hc_txn.specs.Marks.{HasReleased, HasUndone, marks_from, started};
 ghost use Rattle.hc_txn.specs.Reading.{only};
@@ -16,12 +21,14 @@ ghost use Rattle.hc_txn.specs.Transactions.{HasOnlyRead, IsOf, LogsKeyToo, LogsR
 
 use crate::copying::copy_kept;
 use crate::kept::Kept;
+use crate::lasts::{later_cell, part_from, read_down};
 use crate::logged::{read_key, read_logged};
 use crate::marks::{MarkAt, has_mark, leave_inner};
 use crate::own::OwnWrites;
 use hc_base::{Cid, entry_fits};
-use hc_core::{Desk, Part, Write};
+use hc_core::{Cell, Desk, Part, Write};
 use hc_range::{Bytes, NoMemory, Range, ReadLog, contains};
+use hc_reads::Reads;
 use sqlite_items::Items;
 use std::alloc::Global;
 use std::collections::LinkedList;
@@ -49,7 +56,7 @@ pub enum WriteFault {
 pub struct Txn {
     alloc: Global,
     snapshot: Cid,
-    log: ReadLog,
+    log: Reads,
     own: OwnWrites,
     // The innermost first.
     marks: LinkedList<MarkAt>,
@@ -88,11 +95,24 @@ impl Txn {
         Txn {
             alloc,
             snapshot,
-            log: ReadLog::new(alloc),
+            log: Reads::new(alloc),
             own: OwnWrites::new(alloc),
             marks: LinkedList::new(alloc),
             statement: None,
         }
+    }
+
+    /// Opens a transaction at a desk where none is open.
+    pub fn begin<D: Desk>(alloc: Global, desk: &mut D) -> Txn
+        requires idle { IsIdle (txns (D.account desk.old)) }
+        ensures of { IsOf (D.account desk.new) result }
+        ensures empty { (result.own ≡ []) × (result.marks ≡ []) × (result.statement ≡ None) }
+        ensures entry { D.account desk.new ≡ entry_of (Begin (D.conn desk.old)) (Began (record { 0 = result.snapshot })) ∷ D.account desk.old }
+        ensures snapshot { (D.seen desk.old ≤ result.snapshot) × (result.snapshot ≤ D.seen desk.new) }
+        ensures on { GoesOn D.conn D.most D.seen D.later desk.old desk.new }
+    {
+        let snapshot = desk.begin();
+        Txn::new(alloc, snapshot)
     }
 
     /// The number of commits that its snapshot has.
@@ -100,14 +120,6 @@ impl Txn {
         ensures { result.0 ≡ self.now.snapshot }
     {
         self.snapshot
-    }
-
-    /// The keys that it has read, as ascending ranges.
-    pub fn log(&self) -> &[Range]
-        ensures list { result.now ≡ self.now.log }
-        ensures normal { IsNormal self.now.log }
-    {
-        self.log.ranges()
     }
 
     /// The record at a key, as the transaction sees it. The key is read.
@@ -152,6 +164,52 @@ impl Txn {
         };
         read_logged(&mut self.log, self.alloc, desk, range, &mut part)?;
         self.own.lay_over(self.alloc, range, part, out)
+    }
+
+    // The last cell of a range that is not empty, as the transaction sees it.
+    fn find_last<D: Desk>(&mut self, desk: &mut D, range: &Range) -> Result<Option<Cell>, NoMemory>
+        requires of { IsOf (D.account desk.old) self.old }
+        requires some { InRange range.now range.now.lo }
+        ensures last { IfOk result (IsLastSeen self.old.own range.now (D.account desk.new)) }
+        ensures log { IfOk result (λ found. LogsRangeToo (part_from range.now found) self.old.log self.new.log) }
+        ensures within { LogsWithin range.now self.old.log self.new.log }
+        ensures same { SeesTheSame self.old self.new }
+        ensures of { IsOf (D.account desk.new) self.new }
+        ensures reads { HasOnlyRead (D.conn desk.old) (D.account desk.old) (D.account desk.new) }
+        ensures on { GoesOn D.conn D.most D.seen D.later desk.old desk.new }
+    {
+        let own = self.own.last_put(self.alloc, range)?;
+        let part = part_from(self.alloc, range, &own)?;
+        let found = read_down(&mut self.log, &self.own, self.alloc, desk, &part)?;
+        Ok(later_cell(own, found))
+    }
+
+    /// Adds the last cell of a range to `out`, as the transaction sees it. The range is read from its key on, and nothing
+    /// below it. Where there is none the answer is false, and the whole range is read.
+    pub fn last<D: Desk>(
+        &mut self,
+        desk: &mut D,
+        range: &Range,
+        out: &mut Part,
+    ) -> Result<bool, NoMemory>
+        requires of { IsOf (D.account desk.old) self.old }
+        ensures last { IfOk result (λ some. HasSeenLast some self.old.own range.now (D.account desk.new) out.old.cells out.new.cells self.old.log self.new.log) }
+        ensures no_memory { OnErr result (LogsWithin range.now self.old.log self.new.log × (out.new.cells ≡ out.old.cells)) }
+        ensures same { SeesTheSame self.old self.new }
+        ensures of { IsOf (D.account desk.new) self.new }
+        ensures reads { HasOnlyRead (D.conn desk.old) (D.account desk.old) (D.account desk.new) }
+        ensures on { GoesOn D.conn D.most D.seen D.later desk.old desk.new }
+    {
+        if !contains(range, range.lo.as_slice()) {
+            return Ok(false);
+        }
+        match self.find_last(desk, range)? {
+            Some(cell) => {
+                out.cells.push(cell)?;
+                Ok(true)
+            }
+            None => Ok(false),
+        }
     }
 
     // Keeps the snapshot's record of a key, which is read where it was not kept before.
@@ -294,7 +352,7 @@ pub struct Net {
 impl Txn {
     /// Its net writes: the keys at which what it sees differs from its snapshot. No desk is asked, and no record is copied.
     pub fn into_net(self) -> Result<Net, NoMemory>
-        ensures kept { IfOk result (λ net. (net.snapshot.0 ≡ self.snapshot) × (net.log ≡ self.log)) }
+        ensures kept { IfOk result (λ net. (net.snapshot.0 ≡ self.snapshot) × HaveSameKeys self.log net.log) }
         ensures ascending { IfOk result (λ net. AreAscendingWrites net.writes.items) }
         ensures fit { IfOk result (λ net. EachFits net.writes.items) }
         ensures net { IfOk result (λ net. (account : List Entry) → IsOf account self → (store : Store) → Agrees (reads_of account) store
@@ -308,6 +366,7 @@ impl Txn {
             marks: _marks,
             statement: _statement,
         } = self;
+        let log = log.into_log()?;
         let writes = own.into_net(alloc)?;
         Ok(Net {
             snapshot,

@@ -2,6 +2,7 @@ use Rattle.std.proofs.Common.{◌≡◌, ◌≢◌, ap, List, [], length, arith}
 use Rattle.std.proofs.lemmas.Bool.Decides.{nat_tests}
 use Rattle.std.proofs.lemmas.List.{nil_from_length}
 use Rattle.hc_core.specs.declared.cells.Write.{Write}
+use Rattle.hc_commit.proofs.SameLog.{only_read}
 use Rattle.hc_commit.proofs.Ready.{failed, net_of, nothing_done, succeeded}
 use Rattle.hc_commit.proofs.committing.attempt.Goals as goal
 
@@ -37,3 +38,6 @@ returns-in-Err-clause-failed g c =
     failed (g.D.Desk.conn c.args.desk.now) c.args.ord (g.D.Desk.most c.args.desk.now) c.args.txn c.in-Ok.net.log c.in-Ok.net.writes.items c.in-Err.fault
     (g.D.Desk.account c.args.desk.now) (g.D.Desk.account c.commit_net.new.desk) n.kept.1
     (net_of (g.D.Desk.account c.args.desk.now) c.args.txn c.in-Ok.net.writes.items c.requires.of n.ascending n.fit n.net) some c.in-Err.ensures.given_up
+
+pub commit_net-requires-clause-reading : goal.commit_net-requires-clause-reading
+commit_net-requires-clause-reading g c = only_read (g.D.Desk.account c.args.desk.now) c.args.txn c.in-Ok.net.log c.requires.of c.in-Ok.ensures.kept.1

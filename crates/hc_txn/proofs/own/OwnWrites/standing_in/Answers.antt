@@ -8,21 +8,8 @@ use Rattle.hc_txn.specs.Laid.{standing_in}
 use Rattle.hc_txn.specs.Laying.{AreStandingIn}
 use Rattle.hc_txn.specs.Stores.{latest}
 use Rattle.hc_txn.proofs.Histories.{latest_stands}
-use Rattle.hc_txn.proofs.StandingWrites.{in_range, stands_in, standing_ascends}
+use Rattle.hc_txn.proofs.StandingWrites.{standing_as}
 use Rattle.hc_txn.proofs.own.OwnWrites.standing_in.Goals as goal
-
-standing_as : (range : Range) (ks : List Known) (own writes : List Write) → ((key : List ℕ) → latest own key ≡ now_at ks key) → writes ≡ standing_in range ks → AreOrdered ks
-    → AreStandingIn range own writes
-standing_as range ks own writes newest e ordered = (
-  subst AreAscendingWrites (sym e) (standing_ascends range ks ordered),
-  λ key rec.
-      let has = stands_in range key rec ks ordered in (
-        λ a.
-            let s = has.0 (subst (λ (ws : List Write). Among (record { key = key; rec = rec }) ws) e a) in
-            ((in_range range key).0 s.0, newest key ∙ s.1),
-        λ s. subst (λ (ws : List Write). Among (record { key = key; rec = rec }) ws) (sym e) (has.1 ((in_range range key).1 s.0, sym (newest key) ∙ s.1)),
-      ),
-)
 
 found_as : {W E : Type 0} (r : Result W E) (items : W → List Write) (range : Range) (ks : List Known) (own : List Write) → ((key : List ℕ) → latest own key ≡ now_at ks key)
     → IfOk r (λ writes. items writes ≡ standing_in range ks) → OnOk r (AreOrdered ks) → IfOk r (λ writes. AreStandingIn range own (items writes))
