@@ -1,1 +1,4 @@
+mod Before
 mod Counting
+mod Equalities
+mod OnPath

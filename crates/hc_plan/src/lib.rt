@@ -1,6 +1,7 @@
 //! How each table of a statement is reached.
 #![tactic(auto)]
 
+pub mod laws;
 mod pins;
 mod planning;
 
