@@ -1,0 +1,5 @@
+mod Classes
+mod Judgements
+mod ScopeReads
+mod Trees
+mod Values
