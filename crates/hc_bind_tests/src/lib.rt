@@ -1,0 +1,9 @@
+//! Tests of binding. No crate uses this one.
+#![tactic(auto)]
+
+#[cfg(test)]
+mod binding;
+#[cfg(test)]
+mod cases;
+#[cfg(test)]
+mod shown;
