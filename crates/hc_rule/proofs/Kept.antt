@@ -1,6 +1,10 @@
 pub mod Deal
+pub mod LoadLog
 pub mod LoadPage
 pub mod Note
 pub mod Rows
 pub mod StorePage
+pub mod StoreSeat
 pub mod TakePage
+pub mod TidWord
+pub mod WinLog

@@ -1,7 +1,11 @@
 pub mod Along
+pub mod Entering
 pub mod Kept
 pub mod Laying
+pub mod LogSteps
+pub mod OwnSeat
 pub mod PageStates
+pub mod Recording
 pub mod Rewriting
 pub mod Roles
 pub mod RowStates

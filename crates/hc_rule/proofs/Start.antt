@@ -5,18 +5,21 @@ use Rattle.hc_base.specs.Layout.{HasContent}
 use Rattle.hc_base.specs.Lookup.{Among, but}
 use Rattle.hc_base.proofs.Lookups.{but-same, but-other}
 use Rattle.hc_base.specs.Words.{IsPageWord, page_word}
+use Rattle.hc_base.specs.declared.tid_word.TidWord.TheVariants as tid
 use Rattle.hc_rows.specs.declared.layout.Layout.{Layout}
 use Rattle.hc_rows.specs.Regions.{rows}
 use Rattle.hc_rule.specs.declared.view.View.{View}
+use Rattle.hc_rule.specs.declared.view.Role.{Role}
 use Rattle.hc_rule.specs.declared.view.Row.{Row}
 use Rattle.hc_rule.specs.declared.view.Role.TheVariants.{Dealer, Connection, Nobody}
-use Rattle.hc_rule.specs.Views.{known, nobody, first_view}
+use Rattle.hc_rule.specs.Views.{Knowledge, knowledge_of, known, nobody, first_view}
 use Rattle.hc_rule.specs.States.{State, Free, Owned, Ready, Named, Replaced, Pending, Limbo, form_of, IsKept, IsOwnedBy, HasClaimed, IsStated}
 use Rattle.hc_rule.specs.Reach.{IsReached}
 use Rattle.hc_rule.specs.Seats.{IsDealt}
+use Rattle.hc_rule.specs.Recorded.{IsRecorded}
 use Rattle.hc_rule.specs.Rule.{Holds}
 use Rattle.hc_rule.specs.Start.{mapped, names, first_leaf, first_inner, IsFirst}
-use Rattle.hc_rule.proofs.Along.{stated_along, reached_along}
+use Rattle.hc_rule.proofs.Along.{stated_along, reached_along, recorded_along}
 use Rattle.hc_rule.proofs.Roles.{not_both, not_nobody, no_dealer}
 
 -- a page is the first, the second or free
@@ -163,6 +166,34 @@ first_reached row leaf inner = record {
   content = each_start (λ q s. IsKept s → HasContent (row q)) (λ kept. leaf) (λ kept. inner) (λ q not_two not_one none. absurd none);
 }
 
+-- no transaction was begun, and nobody knows of one
+first_recorded : (last : ℕ) (role : ℕ → Role) → IsRecorded last (λ conn. 0) (λ id. 0) (λ c. 0) role (λ i. knowledge_of nobody)
+first_recorded last role = record {
+  size = 0;
+  drawn = 0;
+  account = λ conn. [];
+  form = λ id. tid.Empty;
+  accounts = record { own = λ i conn is. refl; told = λ i x there. absurd there; none = λ i n conn is above. refl; entries = λ conn. tt };
+  logged = record {
+    empty = λ c above. refl;
+    sound = record {
+      distinct = λ c d c_below. absurd (omega (arith, c_below));
+      entries = λ c below. absurd (omega (arith, below));
+      decided = λ i t c there. absurd there;
+      ids = λ i j t u there. absurd there;
+      in_order = λ i. tt;
+      each = λ i t there. absurd there;
+    };
+    drawn_within = λ i t there. absurd there;
+    each_drawn = λ id some within. absurd (omega (arith, some, within));
+    room = omega arith;
+  };
+  staged = record { word = λ i conn is. refl; form = λ i conn is. tt; stage = λ i conn is. tt; none = λ i n conn is above. refl };
+  worded = record { word = λ id. refl; fits = λ id. tt; none = λ id above. refl; shows = λ j t there. absurd there };
+  own = record { id = λ i conn is. refl; word = λ i conn is. refl };
+  seen = record { within = λ i. omega arith; words = λ i x there. absurd there; places = λ i x there. absurd there };
+}
+
 pub start_holds : (y : Layout) (words : List ℕ) → IsFirst y words → Holds y words (first_view ∷ [])
 start_holds y words first =
     let pages : known (λ v. v.pages) (first_view ∷ []) ≡ (λ i. []) = (λ t i. only (λ v. v.pages) [] refl refl i t) in
@@ -175,4 +206,7 @@ start_holds y words first =
       state = but (but (λ p. Free) 1 (Named 1)) 2 (Named 2);
       stated = stated_along (but (but (λ p. Free) 1 (Named 1)) 2 (Named 2)) _ _ _ _ _ _ _ _ _ _ first.pages first.maps refl pages claims first_stated;
       reached = reached_along (but (but (λ p. Free) 1 (Named 1)) 2 (Named 2)) _ _ _ _ _ _ refl loads pages (first_reached (rows y words) (first_leaf, first.leaf) (first_inner, first.inner));
+      recorded =
+          recorded_along y.transactions _ _ _ _ _ _ _ _ _ _ first.others.seat first.others.tid first.others.log refl
+          (λ t i. only knowledge_of (knowledge_of nobody) refl refl i t) (first_recorded y.transactions (known (λ v. v.role) (first_view ∷ [])));
     }

@@ -1,8 +1,14 @@
+pub mod Accounts
+pub mod CommitLog
 pub mod Hands
 pub mod Kinds
 pub mod Reach
+pub mod Recorded
 pub mod Rule
 pub mod Seats
+pub mod Seen
+pub mod Stages
 pub mod Start
 pub mod States
+pub mod TidWords
 pub mod Views

@@ -9,4 +9,4 @@ mod rule;
 mod view;
 
 pub use rule::Rule;
-pub use view::{Claim, Claimed, Found, Role, Row, Told, View};
+pub use view::{Claim, Claimed, Found, Role, Row, SeenPlace, SeenWord, Told, View};

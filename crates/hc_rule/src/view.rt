@@ -1,5 +1,5 @@
 //! What a seat knows.
-use hc_base::{Cid, Logical, Phys, SeatWord, Tid};
+use hc_base::{Cid, Logical, Phys, SeatWord, Tid, TidWord};
 use hc_core::Account;
 use std::collections::LinkedList;
 
@@ -14,7 +14,7 @@ pub enum Role {
     Nobody,
 }
 
-/// The account of a connection, as far as a seat was told.
+/// The account of another connection, as far as a seat was told.
 #[derive(Drop)]
 pub struct Told {
     pub conn: u32,
@@ -50,16 +50,41 @@ pub struct Claim {
     pub claimed: Claimed,
 }
 
+/// What a seat found of a transaction: its id, its word, and how much of the log the seat had seen then.
+#[derive(Drop)]
+pub struct SeenWord {
+    pub tid: Tid,
+    pub word: TidWord,
+    pub seen: Cid,
+}
+
+/// A place of the log that a seat found taken, and the id there.
+#[derive(Drop)]
+pub struct SeenPlace {
+    pub cid: Cid,
+    pub tid: Tid,
+}
+
 /// What a seat knows. Contracts alone see it, and no code makes one. All lists have the newest first.
 #[derive(Drop)]
 pub struct View {
     pub role: Role,
-    /// The accounts of its own connection and of those that it was told of.
-    pub accounts: LinkedList<Told>,
+    /// The account of its own connection, where it has one.
+    pub account: Account,
+    /// The accounts of other connections that it was told of.
+    pub told: LinkedList<Told>,
     /// How many places of the log it has seen taken.
     pub seen: Cid,
     /// The word of its connection.
     pub stage: SeatWord,
+    /// The id that its open transaction has drawn.
+    pub own: Option<Tid>,
+    /// The word of that id, and `Empty` where there is none.
+    pub word: TidWord,
+    /// The words of ids, as it found them.
+    pub words: LinkedList<SeenWord>,
+    /// The places of the log that it found taken.
+    pub places: LinkedList<SeenPlace>,
     /// The pages that it reached since its transaction began, with their rows.
     pub loaded: LinkedList<Row>,
     /// The pages that it knows to be replaced.

@@ -5,6 +5,7 @@ ghost use Rattle.hc_rule.specs.Views.{bare};
 ghost use Rattle.hc_rule.specs.declared.view.Role.TheVariants.{Connection};
 
 use atomic_table::{Seat, Shared};
+use hc_base::Cid;
 use hc_rows::Layout;
 use hc_rule::{Rule, View};
 
@@ -22,6 +23,8 @@ pub struct Grip<'a> {
     pub conn: u8,
     /// Where the next claim of a page begins.
     pub(crate) hint: u32,
+    /// How many places of the log it has seen taken.
+    pub(crate) seen: Cid,
     pub seat: Seat<(), View>,
     ghost of_table: { seat.table_id ≡ table.now.table_id },
     ghost keyed: { table.now.key ≡ layout },
@@ -30,4 +33,7 @@ pub struct Grip<'a> {
     ghost hinted: { HasPage layout hint },
     ghost bare_seat: { seat.me ≡ bare seat.me.0 },
     ghost connected: { seat.me.0.role ≡ Connection conn },
+    ghost counted: { seen ≡ seat.me.0.seen },
+    ghost bounded: { seen.0 ≤ layout.transactions },
+    ghost dealt: { conn < layout.seats },
 }

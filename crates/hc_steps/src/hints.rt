@@ -1,7 +1,7 @@
 //! Where a claim of a page begins.
 ghost use Rattle.std.specs.Prelude.{◌≡◌};
 ghost use Rattle.hc_rows.specs.Places.{HasPage};
-ghost use Rattle.hc_steps.specs.Same.{IsSame};
+ghost use Rattle.hc_steps.specs.Same.{IsAlike};
 
 use crate::grip::Grip;
 use hc_base::Phys;
@@ -20,7 +20,7 @@ impl<'a> Grip<'a> {
         requires page { HasPage self.old.layout p.0 }
         ensures hint { self.new.hint ≡ p.0 }
         ensures seat { self.new.seat.me ≡ self.old.seat.me }
-        ensures same { IsSame self.old self.new }
+        ensures same { IsAlike self.old self.new }
     {
         self.hint = p.0;
     }

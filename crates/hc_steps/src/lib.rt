@@ -4,10 +4,13 @@
 mod first;
 mod grip;
 mod hints;
+mod log_words;
 mod notes;
 mod page_words;
 mod region;
 mod row_words;
+mod seat_words;
+mod tid_words;
 
 pub use grip::Grip;
 pub use notes::Note;

@@ -1,12 +1,14 @@
 //! What one seat tells another.
-ghost use Rattle.std.specs.Prelude.{◌≡◌};
+ghost use Rattle.std.specs.Prelude.{◌≡◌, ◌≤◌};
 ghost use Rattle.hc_rule.specs.Views.{bare};
 ghost use Rattle.hc_rule.specs.Kinds.Note.{note_of, informed};
 ghost use Rattle.hc_steps.specs.Same.{IsSame};
 ghost use Rattle.hc_steps.specs.Seated.{IsSeated};
 
 use crate::grip::{Grip, Token, Words};
+use crate::log_words::greater;
 use atomic_table::{Join, Seat, Split};
+use hc_base::Cid;
 use hc_rows::Layout;
 use hc_rule::View;
 
@@ -14,7 +16,10 @@ use hc_rule::View;
 /// number.
 #[derive(Drop)]
 pub struct Note {
+    /// How many places of the log that seat has seen taken.
+    pub seen: Cid,
     pub seat: Seat<(), View>,
+    ghost counted: { seen ≡ seat.me.0.seen },
     ghost bare_seat: { seat.me ≡ bare seat.me.0 },
     ghost note: { seat.me.0 ≡ note_of seat.me.0 },
 }
@@ -62,19 +67,26 @@ impl<'a> Grip<'a> {
     pub fn tell(&mut self) -> Note
         ensures note { result.seat.me.0 ≡ note_of self.old.seat.me.0 }
         ensures table { result.seat.table_id ≡ self.old.seat.table_id }
+        ensures seen { result.seen.0 ≤ self.old.layout.transactions }
         ensures seat { self.new.seat.me ≡ self.old.seat.me }
         ensures same { IsSame self.old self.new }
     {
         let seat = tell_as(self.table, &self.layout, &mut self.seat);
-        Note { seat }
+        Note {
+            seen: self.seen,
+            seat,
+        }
     }
 
     /// Takes in what another seat of the table has seen and was told of.
     pub fn learn(&mut self, note: Note)
         requires table { note.seat.table_id ≡ self.old.seat.table_id }
+        requires seen { note.seen.0 ≤ self.old.layout.transactions }
         ensures told { self.new.seat.me ≡ bare (informed self.old.seat.me.0 note.seat.me.0) }
         ensures same { IsSame self.old self.new }
     {
+        let seen = note.seen;
         learn_as(self.table, &self.layout, &mut self.seat, note.seat);
+        self.seen = greater(self.seen, seen);
     }
 }

@@ -2,6 +2,7 @@
 ghost use Rattle.std.specs.Prelude.{◌≡◌, ◌<◌, ◌≤◌, ◌+◌, IfOk};
 ghost use Rattle.hc_rows.specs.Places.{IsLayout, HasPage, total};
 ghost use Rattle.hc_rule.specs.Views.{bare, dealt_view};
+ghost use Rattle.hc_steps.specs.Hints.{first_hint_of};
 ghost use Rattle.hc_steps.specs.Seated.{IsSeated};
 ghost use Rattle.hc_rule.specs.Kinds.Deal.{dealer_after, seat_dealt};
 ghost use Rattle.hc_rule.specs.declared.view.Role.TheVariants.{Dealer as Deals};
@@ -9,6 +10,7 @@ ghost use Rattle.hc_rule.specs.declared.view.Role.TheVariants.{Dealer as Deals};
 use crate::first::first_words;
 use crate::grip::{Grip, Token, Words};
 use atomic_table::{Seat, Split, Table};
+use hc_base::Cid;
 use hc_range::NoMemory;
 use hc_rows::Layout;
 use hc_rule::{Rule, View};
@@ -56,11 +58,12 @@ fn deal_as(table: &Words, layout: &Layout, dealt: u32, seat: &mut Token) -> Toke
     table.split_seat::<Next>(seat)
 }
 
-// Where a connection begins to claim pages: those of different connections are evenly spread.
+// Where a connection begins to claim pages.
 fn first_hint(layout: &Layout, conn: u32) -> u32
     requires ranged { IsLayout layout.now }
     requires conn { conn < layout.now.seats }
-    ensures { HasPage layout.now result }
+    ensures page { HasPage layout.now result }
+    ensures hint { result ≡ first_hint_of layout.now conn }
 {
     let between = u64::from(layout.pages / layout.seats);
     (u64::from(conn) * between % u64::from(layout.pages)) as u32 + 1
@@ -84,6 +87,7 @@ impl Region {
         requires room { dealer.old.dealt < self.now.layout.seats }
         ensures conn { (result.conn ≡ dealer.old.dealt) × (result.layout ≡ self.now.layout) }
         ensures view { result.seat.me.0 ≡ dealt_view dealer.old.dealt }
+        ensures hint { result.hint ≡ first_hint_of self.now.layout dealer.old.dealt }
         ensures table { (result.seat.table_id ≡ dealer.old.seat.table_id) × (dealer.new.seat.table_id ≡ dealer.old.seat.table_id) }
         ensures dealer { dealer.new.dealt ≡ dealer.old.dealt + 1 }
     {
@@ -96,6 +100,7 @@ impl Region {
             layout: self.layout,
             conn: dealt as u8,
             hint: first_hint(&self.layout, dealt),
+            seen: Cid(0),
             seat,
         }
     }

@@ -13,15 +13,21 @@ use Rattle.hc_rule.specs.declared.view.Row.{Row}
 use Rattle.hc_rule.specs.declared.view.Claim.{Claim}
 use Rattle.hc_rule.specs.declared.view.Role.{Role}
 use Rattle.hc_rule.specs.declared.view.Role.TheVariants.{Dealer, Connection, Nobody}
-use Rattle.hc_rule.specs.Views.{known}
+use Rattle.hc_rule.specs.Views.{Knowledge, knowledge_of, nobody, known}
 use Rattle.hc_rule.specs.States.{HasClaimed}
 use Rattle.hc_rule.specs.Seats.{IsDealt}
+use Rattle.hc_base.specs.Words.{IsSeatWord, seat_word}
+use Rattle.hc_core.specs.Account.{IsIdle, txns}
+use Rattle.hc_core.specs.declared.account.Entry.{Entry}
+use Rattle.hc_rule.specs.Stages.{IsStage}
+use Rattle.hc_rule.specs.TidWords.{IsOpenId, open_id}
+use Rattle.hc_rule.specs.Recorded.{IsRecorded}
 use Rattle.hc_rule.specs.Rule.{Holds}
 use Rattle.hc_rule.specs.Kinds.Deal.{dealt_by, dealer_after, seat_dealt}
-use Rattle.hc_rule.proofs.Along.{stated_along, reached_along}
+use Rattle.hc_rule.proofs.Along.{stated_along, reached_along, recorded_along}
 use Rattle.hc_rule.proofs.Roles.{number_of, not_both, not_nobody}
 use Rattle.hc_rule.proofs.PageStates.{stated_seats, reached_seats}
-use Rattle.hc_rule.proofs.Views.{known_is, known_split, nobody_past}
+use Rattle.hc_rule.proofs.Views.{known_is, known_kept, known_more, known_split, nobody_past}
 
 -- who sits where, after it
 module _ (seats : ℕ) (role : ℕ → Role) (h : IsDealt seats role) (id m n : ℕ) (dealer : role id ≡ Dealer n) (none : role m ≡ Nobody) (room : n < seats) where
@@ -102,6 +108,47 @@ module _ (seats : ℕ) (role : ℕ → Role) (h : IsDealt seats role) (id m n : 
         ];
   }
 
+  -- what holds of the new seat and of each that was holds of each
+  module _ (know : ℕ → Knowledge) (blank : know m ≡ knowledge_of nobody) where
+    each_seat : (P : ℕ → Knowledge → Type 0) → P n (knowledge_of nobody) → ((i c : ℕ) → role i ≡ Connection c → P c (know i))
+        → (i c : ℕ) → but (but role id (Dealer (n + 1))) m (Connection n) i ≡ Connection c → P c (know i)
+    each_seat P new others i c is =
+        elim (connection_is i c is) [
+          | inl at ↦ subst (λ d. P d (know i)) (sym at.1) (subst (λ k. P n k) (sym (ap know (sym at.0) ∙ blank)) new)
+          | inr old ↦ others i c old.1
+        ]
+
+    -- the new connection has begun nothing
+    pub recorded_dealt : (last : ℕ) (seat tid log : ℕ → ℕ) → IsRecorded last seat tid log role know → IsRecorded last seat tid log (but (but role id (Dealer (n + 1))) m (Connection n)) know
+    recorded_dealt last seat tid log r =
+        let empty : r.account n ≡ [] = r.accounts.none id n n dealer (omega arith) in
+        let idle : open_id (txns (r.account n)) ≡ 0 = ap (λ (a : List Entry). open_id (txns a)) empty in
+        record {
+          size = r.size;
+          drawn = r.drawn;
+          account = r.account;
+          form = r.form;
+          accounts = record {
+            own = each_seat (λ c k. k.account ≡ r.account c) (sym empty) r.accounts.own;
+            told = r.accounts.told;
+            none = λ i k c is above. let d = dealer_is i k is in r.accounts.none id n c dealer (omega (arith, d.1, above));
+            entries = r.accounts.entries;
+          };
+          logged = r.logged;
+          staged = record {
+            word = each_seat (λ c k. seat c ≡ seat_word k.stage) (r.staged.none id n n dealer (omega arith)) r.staged.word;
+            form = each_seat (λ c k. IsSeatWord k.stage) tt r.staged.form;
+            stage = each_seat (λ c k. IsStage k.stage (txns (r.account c))) (subst (λ (a : List Entry). IsIdle (txns a)) (sym empty) tt) r.staged.stage;
+            none = λ i k c is above. let d = dealer_is i k is in r.staged.none id n c dealer (omega (arith, d.1, above));
+          };
+          worded = r.worded;
+          own = record {
+            id = each_seat (λ c k. IsOpenId (open_id (txns (r.account c))) k.own) idle r.own.id;
+            word = each_seat (λ c k. r.form (open_id (txns (r.account c))) ≡ k.word) (ap r.form idle ∙ r.worded.none 0 (λ some. omega (arith, some))) r.own.word;
+          };
+          seen = r.seen;
+        }
+
 -- a list of the dealer that stays, and an empty one for the new seat
 split_back : (hand : ℕ → List Row) (id m : ℕ) (i : ℕ) (x : Row) → Among x (but (but hand id (hand id)) m [] i) → Among x (hand i)
 split_back hand id m i x there =
@@ -137,6 +184,8 @@ deal_kept y words views id n v at dealer room h =
     known_split (λ x. x.claimed) views id v (dealer_after v) (seat_dealt v) at ∙ ap (λ xs. but (but (known (λ x. x.claimed) views) id xs) (length views) []) (sym (known_is (λ x. x.claimed) views id v at)) in
     let loads : known (λ x. x.loaded) (set views id (dealer_after v) ++ (seat_dealt v ∷ [])) ≡ but (but (known (λ x. x.loaded) views) id (known (λ x. x.loaded) views id)) (length views) [] =
     known_split (λ x. x.loaded) views id v (dealer_after v) (seat_dealt v) at ∙ ap (λ xs. but (but (known (λ x. x.loaded) views) id xs) (length views) []) (sym (known_is (λ x. x.loaded) views id v at)) in
+    let knows : known knowledge_of (set views id (dealer_after v) ++ (seat_dealt v ∷ [])) ≡ known knowledge_of views =
+    known_more knowledge_of (set views id (dealer_after v)) (seat_dealt v) refl ∙ known_kept knowledge_of views id v (dealer_after v) at refl in
     record {
       layout = h.layout;
       sized = h.sized;
@@ -149,6 +198,9 @@ deal_kept y words views id n v at dealer room h =
       reached =
           reached_along h.state _ _ _ _ _ _ refl loads hands
           (reached_seats h.state (rows y words) loaded _ hand _ (split_back loaded id m) (split_back hand id m) h.reached);
+      recorded =
+          recorded_along y.transactions _ _ _ _ _ _ _ _ _ _ refl refl refl roles knows
+          (recorded_dealt y.seats role h.dealt id m n dealer_is none room (known knowledge_of views) (nobody_past knowledge_of views) y.transactions _ _ _ h.recorded);
     }
 
 pub deal_splits : (y : Layout) (id n : ℕ) (v : View) → v.role ≡ Dealer n → n < y.seats → Splits (λ (s : TableState Unit View). Holds y s.words s.views) id v (dealer_after v) (seat_dealt v)

@@ -9,7 +9,7 @@ use Rattle.hc_rows.specs.Regions.{page_words}
 use Rattle.hc_rows.proofs.Steps.{words_are}
 use Rattle.atomic_table.specs.Table.{State as TableState, keeps, Allows}
 use Rattle.hc_rule.specs.declared.view.View.{View}
-use Rattle.hc_rule.specs.Views.{bare}
+use Rattle.hc_rule.specs.Views.{knowledge_of, bare}
 use Rattle.hc_rule.specs.States.{form_of}
 use Rattle.hc_rule.specs.Rule.{Holds}
 use Rattle.hc_rule.specs.Kinds.LoadPage.{with_found, LoadsPage}
@@ -22,6 +22,7 @@ found_kept y words views id v place n at h =
     let w = with_found place n v in
     holds_along y words words views (set views id (with_found place n v)) h refl refl refl refl (known_kept (λ x. x.role) views id v w at refl) (known_kept (λ x. x.pages) views id v w at refl)
     (known_kept (λ x. x.claimed) views id v w at refl) (known_kept (λ x. x.loaded) views id v w at refl)
+    (record { seat = refl; tid = refl; log = refl }) (known_kept knowledge_of views id v w at refl)
 
 pub load_page_allows : (y : Layout) (slots id : ℕ) (v : View) (p : ℕ) → HasPage y p
     → Allows (λ (s : TableState Unit View). Holds y s.words s.views) slots id (bare v) (page_at y p) (λ n. n) (λ n after. LoadsPage (page_at y p) v n after)

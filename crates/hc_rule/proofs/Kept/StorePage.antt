@@ -45,7 +45,7 @@ module _ (y : Layout) (words : List ℕ) (views : List View) (id p conn : ℕ) (
       let role = known (λ x. x.role) views in
       let hand = known (λ x. x.pages) views in
       let claims = known (λ x. x.claimed) views in
-      holds_after y words _ views id v (with_next p next v) h at (length-set words (page_at y p) (page_word (word.Owned conn next))) refl refl
+      holds_after y words _ views id v (with_next p next v) h at (length-set words (page_at y p) (page_word (word.Owned conn next))) refl refl (record { seat = step.seat; tid = step.tid; log = step.log }) refl
       (but h.state p (Owned conn next)) _ _ _ step.page step.map step.row (changed p (set_next next) (known (λ x. x.pages) views id)) _ (λ is. ap (λ xs. changed p (set_next next) xs) (sym is)) (known_kept (λ x. x.claimed) views id v (with_next p next v) at refl)
       (stated_next h.state (page_words y words) (map_words y words) role hand claims h.stated id p conn owned role_is h.dealt.one_seat next small short)
       (reached_next h.state (page_words y words) (map_words y words) role hand claims h.stated id p conn owned role_is h.dealt.one_seat next small short (rows y words) (known (λ x. x.loaded) views) h.reached)
@@ -56,7 +56,7 @@ module _ (y : Layout) (words : List ℕ) (views : List View) (id p conn : ℕ) (
       let role = known (λ x. x.role) views in
       let hand = known (λ x. x.pages) views in
       let claims = known (λ x. x.claimed) views in
-      holds_after y words _ views id v (without p v) h at (length-set words (page_at y p) (page_word word.Free)) refl refl
+      holds_after y words _ views id v (without p v) h at (length-set words (page_at y p) (page_word word.Free)) refl refl (record { seat = step.seat; tid = step.tid; log = step.log }) refl
       (but h.state p Free) _ _ _ step.page step.map step.row (without_page p (known (λ x. x.pages) views id)) _ (λ is. ap (λ xs. without_page p xs) (sym is)) (known_kept (λ x. x.claimed) views id v (without p v) at refl)
       (stated_free h.state (page_words y words) (map_words y words) role hand claims h.stated id p conn owned role_is h.dealt.one_seat)
       (reached_free h.state (page_words y words) (map_words y words) role hand claims h.stated id p conn owned role_is h.dealt.one_seat (rows y words) (known (λ x. x.loaded) views) h.reached)

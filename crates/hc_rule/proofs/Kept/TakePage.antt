@@ -50,7 +50,7 @@ module _ (y : Layout) (words : List ℕ) (views : List View) (id p conn next : �
       let role = known (λ x. x.role) views in
       let hand = known (λ x. x.pages) views in
       let claims = known (λ x. x.claimed) views in
-      holds_after y words _ views id v (with_page p next (rows y words p) v) h at (length-set words (page_at y p) (page_word (word.Owned conn next))) refl refl
+      holds_after y words _ views id v (with_page p next (rows y words p) v) h at (length-set words (page_at y p) (page_word (word.Owned conn next))) refl refl (record { seat = step.seat; tid = step.tid; log = step.log }) refl
       (but h.state p (Owned conn next)) _ _ _ step.page step.map step.row (row_of p next (rows y words p) ∷ known (λ x. x.pages) views id) _ (λ is. ap (λ xs. row_of p next (rows y words p) ∷ xs) (sym is)) claimed
       (stated_take h.state (page_words y words) (map_words y words) role hand claims h.stated id p conn next (rows y words p) free role_is small short)
       (reached_take h.state (page_words y words) (map_words y words) role hand claims h.stated id p conn next (rows y words p) free role_is small short (rows y words) (known (λ x. x.loaded) views) h.reached refl)
