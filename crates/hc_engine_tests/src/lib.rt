@@ -6,4 +6,5 @@ mod hand_pages;
 mod leaves;
 mod pool;
 mod room;
+mod seats;
 mod workers;

@@ -1,6 +1,6 @@
 //! Workers in threads of their own claim pages, write into them and give them back.
 ghost use Rattle.std.specs.Prelude.{◌≡◌, IsTrue};
-ghost use Rattle.hc_steps.specs.Same.{IsSame};
+ghost use Rattle.hc_steps.specs.Same.{IsAlike};
 ghost use Rattle.hc_engine_tests.specs.Holding.{KeepsRows};
 
 use hc_base::{Cid, PageWord, Phys};
@@ -36,7 +36,7 @@ impl<'a> Worker<'a> {
 fn hold(grip: &mut Grip<'_>, most: u32) -> bool
     ensures read { IsTrue result }
     ensures kept { KeepsRows grip.old.seat.me.0 grip.new.seat.me.0 }
-    ensures same { IsSame grip.old grip.new }
+    ensures same { IsAlike grip.old grip.new }
 {
     if most == 0 {
         return true;

@@ -98,11 +98,23 @@ pub fn time_rows(rt: &HostRuntime) -> io::Result<()> {
     )
 }
 
-// A connection's grip, and a checksum of what it claimed.
+// A connection's grip, and a checksum of what it claimed. A claim writes into its grip, so workers lie 128 bytes apart: else
+// the grips of two threads share a line of the processors' caches.
 #[derive(Drop)]
 struct Worker<'a> {
     grip: Grip<'a>,
     sum: u64,
+    apart: [u64; 16],
+}
+
+impl<'a> Worker<'a> {
+    fn new(grip: Grip<'a>) -> Worker<'a> {
+        Worker {
+            grip,
+            sum: 0,
+            apart: [0; 16],
+        }
+    }
 }
 
 /// Claims of one page that is given back, in one thread and in four, as ratios to a compare-and-exchange.
@@ -110,22 +122,10 @@ pub fn time_steps<T: Threads + Sync>(rt: &HostRuntime, threads: &T) -> io::Resul
     let (region, mut dealer) = Region::make(rt.alloc(), small())?;
     let mut grip = region.deal(&mut dealer);
     let mut workers = [
-        Worker {
-            grip: region.deal(&mut dealer),
-            sum: 0,
-        },
-        Worker {
-            grip: region.deal(&mut dealer),
-            sum: 0,
-        },
-        Worker {
-            grip: region.deal(&mut dealer),
-            sum: 0,
-        },
-        Worker {
-            grip: region.deal(&mut dealer),
-            sum: 0,
-        },
+        Worker::new(region.deal(&mut dealer)),
+        Worker::new(region.deal(&mut dealer)),
+        Worker::new(region.deal(&mut dealer)),
+        Worker::new(region.deal(&mut dealer)),
     ];
     let mut exchange = Timed::new();
     let mut alone = Timed::new();

@@ -2,5 +2,7 @@
 #![tactic(auto)]
 
 mod claims;
+mod seats;
 
 pub use claims::{claim, give_back};
+pub use seats::{leave, register};

@@ -19,7 +19,7 @@ write_page-requires-in-turns-clause-owns c =
 
 pub turns-preserved : goal.turns-preserved
 turns-preserved c = record {
-  there = subst (λ y. HasPage y c.in-Ok.p.0) (sym (c.write_page-in-turns.ensures.same.0 ∙ c.write_page.ensures.same.0)) c.turns.invariant.there;
+  there = subst (λ y. HasPage y c.in-Ok.p.0) (sym (c.write_page-in-turns.ensures.same.0.0 ∙ c.write_page.ensures.same.0.0)) c.turns.invariant.there;
   owns =
       subst (λ w. Owns w c.in-Ok.p.0) (sym c.write_page-in-turns.ensures.written)
       (still_owned c.in-Ok.p.0 (set_words c.args.other.now.words) (λ z. refl) c.write_page.new.self.seat.me.0

@@ -2,6 +2,8 @@
 use Rattle.std.proofs.Common.{◌≡◌, ◌+◌, ◌≤◌, ◌<◌, ◌⊎◌, inl, inr, ℕ, sym, ap, subst, ◌∙◌, arith}
 use Rattle.std.proofs.lemmas.Bool.{cases_lt}
 use Rattle.hc_rule.specs.declared.view.View.{View}
+use Rattle.hc_steps.specs.declared.grip.Grip.{Grip}
+use Rattle.hc_steps.specs.Same.{IsSame}
 use Rattle.hc_pool.specs.Claiming.{Claims, FindsTaken}
 use Rattle.hc_pool.proofs.Finds.{finds_both, claims_after}
 use Rattle.hc_pool.proofs.claims.claim_from.Goals as goal
@@ -14,6 +16,11 @@ returns-then-try_claim-clause-claimed c =
       subst (λ (x : View). Claims c.pages.number v x) (sym (ap (λ m. m.0) c.begin_at.ensures.seat))
           (claims_after c.args.grip.now.layout c.pages.number v w c.try_claim.new.grip.seat.me.0 (λ p. (c.args.from ≤ p) × (p < c.pages.number)) c.pages.invariant.found c.if-try_claim.ensures.tried),
     )
+
+-- one grip after another
+same_after : (one two three : Grip) → IsSame one two → IsSame two three → IsSame one three
+same_after one two three first second =
+    ((second.0.0 ∙ first.0.0, second.0.1 ∙ first.0.1, second.0.2 ∙ first.0.2), second.1 ∙ first.1)
 
 -- the pages up to this one, and this one
 up_to : (from n p : ℕ) → (from ≤ p) × (p < n + 1) → ((from ≤ p) × (p < n)) ⊎ (p ≡ n)
@@ -28,6 +35,6 @@ pages-preserved c = record {
   found =
       finds_both c.args.grip.now.layout c.args.grip.now.seat.me.0 c.pages.grip.seat.me.0 c.try_claim.new.grip.seat.me.0 (λ p. (c.args.from ≤ p) × (p < c.pages.number)) (λ p. p ≡ c.pages.number) (λ p. (c.args.from ≤ p) × (p < c.pages.number + 1))
       (up_to c.args.from c.pages.number) c.pages.invariant.found
-      (subst (λ y. FindsTaken y (λ p. p ≡ c.pages.number) c.pages.grip.seat.me.0 c.try_claim.new.grip.seat.me.0) c.pages.invariant.same.0 c.if-try_claim.ensures.tried);
-  same = (c.try_claim.ensures.same.0 ∙ c.pages.invariant.same.0, c.try_claim.ensures.same.1 ∙ c.pages.invariant.same.1, c.try_claim.ensures.same.2 ∙ c.pages.invariant.same.2);
+      (subst (λ y. FindsTaken y (λ p. p ≡ c.pages.number) c.pages.grip.seat.me.0 c.try_claim.new.grip.seat.me.0) c.pages.invariant.same.0.0 c.if-try_claim.ensures.tried);
+  same = same_after c.args.grip.now c.pages.grip c.try_claim.new.grip c.pages.invariant.same c.try_claim.ensures.same;
 }

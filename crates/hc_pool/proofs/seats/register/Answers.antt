@@ -1,0 +1,31 @@
+-- The seat is starting, a transaction begins, and its snapshot is stored.
+use Rattle.std.proofs.Common.{◌≡◌, ◌∙◌, refl, sym, ap, subst, ℕ, ◌≤◌}
+use Rattle.atomic_table.specs.Table.{Me}
+use Rattle.hc_base.specs.declared.seat_word.SeatWord.TheVariants as seat
+use Rattle.hc_rule.specs.declared.view.View.{View}
+use Rattle.hc_rule.specs.Kinds.StoreSeat.{with_stage}
+use Rattle.hc_tidlog.specs.Looking.{MayBegin, Began}
+use Rattle.hc_pool.specs.Registering.{Registers}
+use Rattle.hc_pool.proofs.Registered.{may_read, not_below}
+use Rattle.hc_pool.proofs.seats.register.Goals as goal
+
+pub begin-snapshot-requires : goal.begin-snapshot-requires
+begin-snapshot-requires c = record { may = subst (λ (x : View). MayBegin x) (sym (ap (λ (m : Me Unit View). m.0) c.store_starting.ensures.seat)) (refl, c.requires.idle.1) }
+
+pub store_snapshot-requires : goal.store_snapshot-requires
+store_snapshot-requires c = record {
+  begun = may_read c.store_starting.new.self.conn c.store_starting.new.self.seat.me.0 c.begin-snapshot.result c.begin-snapshot.new.grip.seat.me.0 (ap (λ (m : Me Unit View). m.0.stage) c.store_starting.ensures.seat) c.begin-snapshot.ensures.begun;
+}
+
+pub returns-clause-registered : goal.returns-clause-registered
+returns-clause-registered c = (
+  c.begin-snapshot.new.grip.seat.me.0,
+  subst (λ n. Began n (with_stage seat.Starting c.args.grip.now.seat.me.0) c.begin-snapshot.result c.begin-snapshot.new.grip.seat.me.0) c.store_starting.ensures.same.0.1
+      (subst (λ (x : View). Began c.store_starting.new.self.conn x c.begin-snapshot.result c.begin-snapshot.new.grip.seat.me.0) (ap (λ (m : Me Unit View). m.0) c.store_starting.ensures.seat) c.begin-snapshot.ensures.begun),
+  ap (λ (m : Me Unit View). m.0) c.store_snapshot.ensures.seat,
+)
+
+pub returns-clause-least : goal.returns-clause-least
+returns-clause-least c =
+    subst (λ n. n ≤ c.begin-snapshot.result.0) (ap (λ (m : Me Unit View). m.0.seen.0) c.store_starting.ensures.seat)
+    (not_below c.store_starting.new.self.conn c.store_starting.new.self.seat.me.0 c.begin-snapshot.result c.begin-snapshot.new.grip.seat.me.0 c.begin-snapshot.ensures.begun)
