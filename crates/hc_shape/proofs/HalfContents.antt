@@ -42,7 +42,7 @@ ascends_drop (suc k) [] up = up
 ascends_drop (suc k) (x ∷ es) up = ascends_drop k es up.1
 
 -- the keys before the cut are below it, and those from it on are not
-below_cut : (k : ℕ) (es : List Entry) → Ascends (keys es) → k < length es → All (λ key. IsBelow key (cut_at es k)) (keys (take k es))
+pub below_cut : (k : ℕ) (es : List Entry) → Ascends (keys es) → k < length es → All (λ key. IsBelow key (cut_at es k)) (keys (take k es))
 below_cut zero es up within = All-nil (λ key. IsBelow key (cut_at es 0))
 below_cut (suc k) [] up within = absurd (omega (arith, within))
 below_cut (suc k) (x ∷ es) up within =
@@ -50,7 +50,7 @@ below_cut (suc k) (x ∷ es) up within =
     (All-get_or (λ other. IsBelow x.key other) (keys es) k [] (omega (arith, within, length-map es (λ (entry : Entry). entry.key))) up.0)
     (below_cut k es up.1 (omega (arith, within)))
 
-from_cut : (k : ℕ) (es : List Entry) → Ascends (keys es) → All (λ key. IsAtMost (cut_at es k) key) (keys (drop k es))
+pub from_cut : (k : ℕ) (es : List Entry) → Ascends (keys es) → All (λ key. IsAtMost (cut_at es k) key) (keys (drop k es))
 from_cut zero [] up = All-nil (λ key. IsAtMost [] key)
 from_cut zero (x ∷ es) up =
     All-cons (λ key. IsAtMost x.key key) x.key (keys es) (below_irrefl x.key)

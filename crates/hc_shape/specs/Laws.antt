@@ -6,9 +6,11 @@ use Rattle.hc_base.specs.declared.numbers.Logical.{Logical}
 use Rattle.hc_base.specs.Content.{Ascends, Content, Entry, IsContent, keys}
 use Rattle.hc_base.specs.Lookup.{Among, but}
 use Rattle.hc_base.specs.Words.{IsNumber}
+use Rattle.hc_page.specs.Drafts.{child_of}
 use Rattle.hc_page.specs.Puts.{put_entry}
 use Rattle.hc_shape.specs.Halves.{AreEntriesOf, CanHalve, HalvesFit, IsCut, IsPlace, left_half, right_half}
 use Rattle.hc_shape.specs.Leaves.{CanCut, LowsAscend, moved, number_of, with_next}
+use Rattle.hc_shape.specs.Plans.{IsHalvedInner, IsPutHalved}
 use Rattle.hc_shape.specs.Versions.{HasPut, HasPutHalved, HasUnput, is_same_key, version_of}
 
 -- A cut moves the keys of one number from the cut on to the new one; each other key stays where it was.
@@ -76,3 +78,15 @@ HalvesAreContents = (c : Content) (fresh : Logical) (es : List Entry) (k : ℕ) 
 -- There is one cut at most.
 abbrev pub OneCut : Type 0
 OneCut = (c : Content) (fresh : Logical) (es : List Entry) (j k : ℕ) → IsCut c fresh es j → IsCut c fresh es k → j ≡ k
+
+-- The halves of a leaf with an entry put, at the cut, are what `IsPutHalved` says.
+abbrev pub ACutIsAPutHalved : Type 0
+ACutIsAPutHalved = (c : Content) (e : Entry) (fresh : Logical) (k : ℕ) → c.level ≡ 0 → Ascends (keys (put_entry e c.entries))
+    → IsCut c fresh (put_entry e c.entries) k
+    → IsPutHalved c e fresh (left_half c fresh (put_entry e c.entries) k) (right_half c fresh (put_entry e c.entries) k)
+
+-- Those of an inner page with a child more are what `IsHalvedInner` says.
+abbrev pub ACutIsAHalvedInner : Type 0
+ACutIsAHalvedInner = (c : Content) (key : List ℕ) (child fresh : Logical) (k : ℕ) → 0 < c.level → IsCut c fresh (put_entry (child_of key child) c.entries) k
+    → IsHalvedInner c key child fresh (left_half c fresh (put_entry (child_of key child) c.entries) k)
+    (right_half c fresh (put_entry (child_of key child) c.entries) k)

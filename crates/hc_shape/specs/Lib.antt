@@ -1,4 +1,5 @@
 pub mod Halves
 pub mod Laws
 pub mod Leaves
+pub mod Plans
 pub mod Versions

@@ -1,5 +1,5 @@
 // What follows from the definitions alone. Each law is the contract of a function that does nothing.
-ghost use Rattle.hc_shape.specs.Laws.{ACutKeepsOrder, ACutMovesKeys, ACutPutIsOfOneKey, AKeyHasItsNumber, APutIsOfOneKey, AnEntryIsItsKeysVersion, AnUnputIsOfOneKey, AnUnputLeavesAnOlder, HalvesAreContents, OneCut, SameKeysAreOne, SomePlaceFits, TheHalvesFit, ThereIsACut};
+ghost use Rattle.hc_shape.specs.Laws.{ACutIsAHalvedInner, ACutIsAPutHalved, ACutKeepsOrder, ACutMovesKeys, ACutPutIsOfOneKey, AKeyHasItsNumber, APutIsOfOneKey, AnEntryIsItsKeysVersion, AnUnputIsOfOneKey, AnUnputLeavesAnOlder, HalvesAreContents, OneCut, SameKeysAreOne, SomePlaceFits, TheHalvesFit, ThereIsACut};
 
 /// A key has the number whose low fence is not above it, where the low fence of each number further right is.
 pub fn a_key_has_its_number()
@@ -70,4 +70,14 @@ pub fn halves_are_contents()
 /// There is one cut at most.
 pub fn there_is_one_cut()
     ensures { OneCut }
+{}
+
+/// The halves of a leaf with an entry put, at the cut, are what the plan of such a put has to make.
+pub fn a_cut_is_a_put_halved()
+    ensures { ACutIsAPutHalved }
+{}
+
+/// The halves of an inner page with a child more, at the cut, are what the plan of such a halving has to make.
+pub fn a_cut_is_a_halved_inner()
+    ensures { ACutIsAHalvedInner }
 {}

@@ -1,0 +1,9 @@
+pub mod Best
+pub mod Joining
+pub mod KeyBytes
+pub mod Lists
+pub mod Made
+pub mod Measuring
+pub mod Parting
+pub mod Whole
+pub mod Writing
