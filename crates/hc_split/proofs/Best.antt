@@ -1,9 +1,9 @@
 -- Best: the first place so far with the least of a number.
-use Rattle.std.proofs.Common.{◌≡◌, refl, sym, ap, subst, ◌∙◌, ℕ, zero, suc, ◌+◌, ◌<◌, ◌≤◌, length, inl, inr, List, arith}
+use Rattle.std.proofs.Common.{◌≡◌, ap, subst, ◌∙◌, ℕ, zero, suc, ◌+◌, ◌<◌, ◌≤◌, length, inl, inr, List, arith}
 use Rattle.std.proofs.lemmas.Bool.{cases_lt}
 use Rattle.hc_base.specs.declared.numbers.Logical.{Logical}
 use Rattle.hc_base.specs.Content.{Content, Entry}
-use Rattle.hc_shape.specs.Halves.{IsCut, IsPlace, larger, least_in_half}
+use Rattle.hc_shape.specs.Halves.{IsCut, larger, least_in_half}
 use Rattle.hc_split.specs.declared.cut.Frame.{Frame}
 use Rattle.hc_split.specs.declared.joined.Joined.{Joined}
 use Rattle.hc_split.specs.Joined.{joined_entries}

@@ -1,9 +1,11 @@
 pub mod Best
+pub mod Growing
 pub mod Joining
 pub mod KeyBytes
 pub mod Lists
 pub mod Made
 pub mod Measuring
+pub mod Pair
 pub mod Parting
 pub mod Whole
 pub mod Writing

@@ -1,10 +1,10 @@
 -- Measuring: how many words the halves of joined entries have.
-use Rattle.std.proofs.Common.{◌≡◌, refl, sym, ap, subst, ◌∙◌, ℕ, ◌+◌, ◌-◌, ◌/◌, ◌<◌, ◌≤◌, List, ◌++◌, length, take, drop, Some, arith, cond, leb, length-drop, length-take-le, inl, inr}
+use Rattle.std.proofs.Common.{◌≡◌, sym, ap, ◌∙◌, ℕ, ◌+◌, ◌-◌, ◌/◌, ◌<◌, ◌≤◌, List, length, take, drop, arith, cond, leb, length-drop, length-take-le, inl, inr}
 use Rattle.std.proofs.lemmas.Bool.{cases_Bool, leb-true, leb-false}
 use Rattle.std.proofs.lemmas.List.{take-append-drop, take_all}
 use Rattle.hc_base.specs.declared.numbers.Logical.{Logical}
 use Rattle.hc_base.specs.Content.{Content, Entry}
-use Rattle.hc_base.specs.Layout.{all_words, fence_words, low_words, used_words, words_of}
+use Rattle.hc_base.specs.Layout.{all_words, low_words, used_words}
 use Rattle.hc_base.proofs.Places.{words_of-length}
 use Rattle.hc_page.specs.Puts.{with_entries}
 use Rattle.hc_page.proofs.Entries.{all_words-split}

@@ -1,5 +1,5 @@
 -- Parting: the halves of the entries of a page with one more are contents, and fit.
-use Rattle.std.proofs.Common.{◌≡◌, refl, sym, ap, subst, ◌∙◌, ℕ, zero, suc, ◌+◌, ◌-◌, ◌<◌, ◌≤◌, List, [], ◌∷◌, ◌++◌, length, take, drop, Option, Some, None, arith, length-take-le}
+use Rattle.std.proofs.Common.{◌≡◌, sym, ap, subst, ◌∙◌, ℕ, zero, suc, ◌-◌, ◌<◌, ◌≤◌, List, [], ◌∷◌, ◌++◌, length, take, drop, Option, Some, None, arith}
 use Rattle.std.specs.List.{All}
 use Rattle.std.proofs.lemmas.Bool.{true≢false}
 use Rattle.std.proofs.lemmas.List.Elements.{All-append, All-cons, All-drop, All-take}
@@ -7,7 +7,6 @@ use Rattle.hc_range.specs.Order.{IsAtMost, IsBelow}
 use Rattle.hc_base.specs.declared.numbers.Logical.{Logical}
 use Rattle.hc_base.specs.Content.{Ascends, BeginsAt, Content, Entry, IsContent, IsEntryOf, IsFence, IsWithin, OfSome, keys}
 use Rattle.hc_base.specs.Layout.{IsPage, fence_words, low_words, used_words}
-use Rattle.hc_base.specs.Words.{IsNumber}
 use Rattle.hc_base.proofs.Places.{words_of-length}
 use Rattle.hc_page.specs.declared.writer.Head.{Head}
 use Rattle.hc_page.specs.Drafts.{started}
@@ -15,22 +14,22 @@ use Rattle.hc_page.specs.Puts.{IsAround, put_entry, with_entries}
 use Rattle.hc_page.proofs.Changed.{ascends_put, of_keys, to_keys}
 use Rattle.hc_page.proofs.Putting.{around_greater, around_lesser}
 use Rattle.hc_page.proofs.Ranges.{from_start, to_end}
-use Rattle.hc_shape.specs.Halves.{AreEntriesOf, CanHalve, HalvesFit, IsCut, IsSmall, cut_at, least_in_half, left_half, right_half}
+use Rattle.hc_shape.specs.Halves.{AreEntriesOf, CanHalve, HalvesFit, IsCut, IsSmall, cut_at, left_half, right_half}
 use Rattle.hc_shape.proofs.Halves.{halves_fit, some_place}
 use Rattle.hc_shape.proofs.HalfContents.{contents}
 use Rattle.hc_split.specs.declared.cut.Frame.{Frame}
 use Rattle.hc_split.specs.declared.joined.Joined.{Joined}
-use Rattle.hc_split.specs.Joined.{CanWrite, IsJoined, entry_added, joined_entries, part_of}
+use Rattle.hc_split.specs.Joined.{CanWrite, entry_added, joined_entries, part_of}
 use Rattle.hc_split.specs.Parts.{AreParts, CanPart, HasPlace, IsFrame, owned}
 use Rattle.hc_split.proofs.Best.{least_some}
 use Rattle.hc_split.proofs.Joining.{are_put}
 
 -- a fence takes 58 words at most
-low_small : (level : ℕ) (low : List ℕ) → length low ≤ 463 → length (low_words level low) ≤ 58
+pub low_small : (level : ℕ) (low : List ℕ) → length low ≤ 463 → length (low_words level low) ≤ 58
 low_small zero low short = omega (arith, words_of-length low, short)
 low_small (suc level) low short = omega arith
 
-high_small : (high : Option (List ℕ)) → OfSome IsFence high → length (fence_words high) ≤ 58
+pub high_small : (high : Option (List ℕ)) → OfSome IsFence high → length (fence_words high) ≤ 58
 high_small None fence = omega arith
 high_small (Some high) fence = omega (arith, words_of-length high, fence.0)
 

@@ -1,7 +1,7 @@
 -- Whole: all entries of a page with one more, as one page.
-use Rattle.std.proofs.Common.{◌≡◌, refl, sym, ap, subst, ◌∙◌, ℕ, ◌-◌, ◌≤◌, List, [], length, take, drop, arith}
+use Rattle.std.proofs.Common.{◌≡◌, sym, ap, subst, ◌∙◌, ℕ, ◌-◌, ◌≤◌, [], length, take, drop, arith}
 use Rattle.hc_base.specs.Content.{Content, IsContent}
-use Rattle.hc_base.specs.Layout.{IsPage, used_words}
+use Rattle.hc_base.specs.Layout.{used_words}
 use Rattle.hc_page.specs.declared.writer.Head.{Head}
 use Rattle.hc_page.specs.Drafts.{started}
 use Rattle.hc_page.specs.Puts.{put_entry, with_entries, with_entry}

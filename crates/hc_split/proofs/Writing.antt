@@ -1,21 +1,21 @@
 -- Writing: a page is written from its head on, entry after entry.
-use Rattle.std.proofs.Common.{◌≡◌, refl, sym, ap, subst, ◌∙◌, ℕ, ◌+◌, ◌-◌, ◌<◌, ◌≤◌, List, [], ◌∷◌, ◌++◌, length, take, drop, get_or, Option, Some, None, arith, length-append, length-drop, length-take-le, append-nil}
+use Rattle.std.proofs.Common.{◌≡◌, sym, ap, subst, ◌∙◌, ℕ, ◌+◌, ◌-◌, ◌<◌, ◌≤◌, List, [], ◌∷◌, ◌++◌, length, take, drop, get_or, Option, Some, None, arith, length-append, length-drop, length-take-le, append-nil}
 use Rattle.std.specs.List.{slice_get}
 use Rattle.std.specs.Option.{option_copied}
 use Rattle.std.proofs.lemmas.List.{get_or-take, get_or-drop, take-append-drop, take_all}
 use Rattle.std.proofs.lemmas.Option.{get_or_from_slice_get}
-use Rattle.hc_base.specs.Content.{Content, Entry, IsContent, IsFence, OfSome}
-use Rattle.hc_base.specs.Layout.{all_words, entry_words, fence_words, low_words, record_bytes, used_words}
+use Rattle.hc_base.specs.Content.{Content, Entry, IsFence, OfSome}
+use Rattle.hc_base.specs.Layout.{all_words, entry_words, fence_words, low_words, record_bytes}
 use Rattle.hc_page.specs.declared.writer.Draft.{Draft}
 use Rattle.hc_page.specs.declared.writer.Head.{Head}
-use Rattle.hc_page.specs.Drafts.{IsDraft, IsWhole, HasRoom, entries_from, started, with_last}
+use Rattle.hc_page.specs.Drafts.{IsDraft, IsWhole, entries_from, started, with_last}
 use Rattle.hc_page.specs.Puts.{with_entries}
 use Rattle.hc_page.proofs.Entries.{all_words-split}
 use Rattle.hc_page.proofs.Ranges.{range, take_one}
 use Rattle.hc_split.specs.declared.joined.Joined.{Joined}
 use Rattle.hc_split.specs.Joined.{CanPush, CanWrite, joined_entries, part_of}
 
-high_short : (high : Option (List ℕ)) → OfSome IsFence high → length (record_bytes high) ≤ 463
+pub high_short : (high : Option (List ℕ)) → OfSome IsFence high → length (record_bytes high) ≤ 463
 high_short None fence = omega arith
 high_short (Some high) fence = fence.0
 

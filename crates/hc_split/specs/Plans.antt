@@ -1,14 +1,13 @@
 -- Plans: what each plan asks of its page, and what it writes.
-use Rattle.std.specs.Prelude.{◌≡◌, ◌<◌, ◌≤◌, ℕ, List}
+use Rattle.std.specs.Prelude.{◌≡◌, ◌<◌, ◌+◌, ◌^◌, ℕ, List}
 use Rattle.std.specs.List.{All}
 use Rattle.hc_base.specs.declared.numbers.Logical.{Logical}
 use Rattle.hc_base.specs.Content.{Content, Entry, IsEntryOf, IsWithin}
 use Rattle.hc_base.specs.Layout.{IsPage, used_words}
-use Rattle.hc_base.specs.Words.{IsNumber}
 use Rattle.hc_page.specs.Drafts.{child_of}
 use Rattle.hc_page.specs.Puts.{with_entry}
 use Rattle.hc_shape.specs.Halves.{IsSmall}
-use Rattle.hc_shape.specs.Plans.{IsHalvedInner, IsPosted, IsPutHalved}
+use Rattle.hc_shape.specs.Plans.{IsGrown, IsHalvedInner, IsPosted, IsPutHalved}
 
 -- The page is a leaf of small entries that has no room for this small entry, whose key is within its fences.
 pub record IsFullLeaf (words : List ℕ) (e : Entry) (c : Content) : Type 0 where
@@ -43,3 +42,13 @@ HasPosted c key child out = (new : Content) × IsPage out new × IsPosted c new 
 -- the pages are of two contents that an inner page was cut into
 abbrev pub AreHalvedInner : Content → List ℕ → Logical → Logical → List ℕ → List ℕ → Type 0
 AreHalvedInner c key child fresh left right = (l r : Content) × IsPage left l × IsPage right r × IsHalvedInner c key child fresh l r
+
+-- and it can be one level higher
+pub record IsFullTop (words : List ℕ) (key : List ℕ) (child : Logical) (c : Content) : Type 0 where
+  pub full : IsFullParent words key child c
+  pub level : c.level + 1 < 2 ^ 8
+
+-- the pages are of the two contents that the top was cut into, and of the higher top
+abbrev pub AreGrown : Content → List ℕ → Logical → Logical → Logical → List ℕ → List ℕ → List ℕ → Type 0
+AreGrown c key child a b left right out =
+    (l r top : Content) × IsPage left l × IsPage right r × IsPage out top × IsGrown c key child a b l r top

@@ -1,5 +1,5 @@
 //! What a page has besides its entries, and what its halves have.
-ghost use Rattle.std.specs.Prelude.{◌≡◌, [], Some};
+ghost use Rattle.std.specs.Prelude.{◌≡◌, ◌+◌, ◌<◌, ◌^◌, [], Some};
 ghost use Rattle.std.specs.Option.{option_copied};
 ghost use Rattle.hc_base.specs.Content.{Content};
 ghost use Rattle.hc_base.specs.Layout.{IsPage, HasContent};
@@ -70,5 +70,19 @@ fn bytes_of<'a>(key: &'a Option<KeyBuf>) -> Option<&'a [u8]>
     match key {
         Some(key) => Some(key.as_slice()),
         None => None,
+    }
+}
+
+/// The same of a page one level higher.
+pub fn higher_head<'a>(page: &Page, low: &'a KeyBuf, high: &'a Option<KeyBuf>) -> Head<'a>
+    requires level { (c : Content) × IsPage page.now.words c × (c.level + 1 < 2 ^ 8) }
+    ensures head { (c : Content) → IsPage page.now.words c → low.now ≡ c.low → high.now ≡ c.high → started result ≡ record c { level = c.level + 1; entries = [] } }
+{
+    Head {
+        level: level(page) + 1,
+        own: own(page),
+        right: right(page),
+        low: low.as_slice(),
+        high: bytes_of(high),
     }
 }

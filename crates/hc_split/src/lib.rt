@@ -5,6 +5,7 @@
 #![tactic(auto)]
 
 mod cut;
+mod grow;
 mod halves;
 mod heads;
 mod inner;
@@ -12,5 +13,6 @@ mod joined;
 mod leaf;
 mod reading;
 
+pub use grow::grow_root;
 pub use inner::{halve_inner, post};
 pub use leaf::halve;

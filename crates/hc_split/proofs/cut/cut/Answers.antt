@@ -1,5 +1,5 @@
 -- Each place is compared with the best one so far.
-use Rattle.std.proofs.Common.{◌≡◌, ◌+◌, ◌≤◌, length, refl, arith}
+use Rattle.std.proofs.Common.{◌+◌, ◌≤◌, length, refl, arith}
 use Rattle.hc_shape.specs.Halves.{larger}
 use Rattle.hc_split.specs.Joined.{joined_entries}
 use Rattle.hc_split.proofs.Best.{best_cut, best_first, best_next, best_still, can_measure, first_place, least_by}

@@ -1,6 +1,5 @@
 -- The words of its bytes.
-use Rattle.std.proofs.Common.{length, ap, sym, ◌∙◌, arith}
-use Rattle.hc_base.specs.Layout.{fence_words}
+use Rattle.std.proofs.Common.{length, ap, arith}
 use Rattle.hc_base.proofs.Places.{words_of-length}
 use Rattle.hc_split.proofs.cut.high_size.Goals as goal
 

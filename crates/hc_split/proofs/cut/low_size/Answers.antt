@@ -1,5 +1,5 @@
 -- A leaf's low fence is written out.
-use Rattle.std.proofs.Common.{◌∙◌, ◌/◌, ◌+◌, ap, sym, length, arith, subst, ◌≡◌}
+use Rattle.std.proofs.Common.{◌∙◌, ◌/◌, ◌+◌, ap, sym, length, arith, ◌≡◌}
 use Rattle.hc_base.specs.Layout.{low_words}
 use Rattle.hc_base.proofs.Places.{words_of-length}
 use Rattle.hc_split.proofs.cut.low_size.Goals as goal

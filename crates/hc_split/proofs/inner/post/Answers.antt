@@ -1,7 +1,6 @@
 -- The words of all entries tell whether they fit.
-use Rattle.std.proofs.Common.{◌≡◌, ◌≤◌, refl, sym, ap, subst, ◌∙◌, length, arith}
+use Rattle.std.proofs.Common.{◌≤◌, refl, sym, ap, subst, ◌∙◌, arith}
 use Rattle.std.proofs.lemmas.Bool.{true≢false}
-use Rattle.hc_base.specs.Content.{Content}
 use Rattle.hc_base.specs.Layout.{IsPage, used_words}
 use Rattle.hc_page.specs.Drafts.{child_of}
 use Rattle.hc_page.specs.Puts.{with_entries, with_entry}

@@ -1,5 +1,5 @@
 -- Before the new entry, itself, or after it.
-use Rattle.std.proofs.Common.{◌<◌, ap, ◌∙◌, arith}
+use Rattle.std.proofs.Common.{ap, ◌∙◌, arith}
 use Rattle.std.specs.List.{slice_get}
 use Rattle.hc_page.proofs.Entries.{few_entries}
 use Rattle.hc_split.specs.Joined.{joined_entries}

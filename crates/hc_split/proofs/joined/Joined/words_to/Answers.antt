@@ -1,8 +1,6 @@
 -- The page's first entries; from the new one on, it and the page's entries after its place.
-use Rattle.std.proofs.Common.{◌-◌, ◌+◌, ◌≤◌, ap, sym, ◌∙◌, length, take, arith, refl}
-use Rattle.hc_base.specs.Layout.{all_words}
-use Rattle.hc_split.specs.Sizes.{HasUpTo}
-use Rattle.hc_split.proofs.Joining.{after_within, up_to, words_after, words_before, words_more}
+use Rattle.std.proofs.Common.{◌-◌, ◌+◌, arith}
+use Rattle.hc_split.proofs.Joining.{after_within, up_to, words_after, words_more}
 use Rattle.hc_split.proofs.joined.Joined.words_to.Goals as goal
 
 pub overflow_sub-rest : goal.overflow_sub-rest

@@ -1,12 +1,10 @@
 -- Each entry comes after those before it, and then all are there.
-use Rattle.std.proofs.Common.{◌≡◌, ◌+◌, ◌-◌, ◌<◌, [], ◌∷◌, ◌++◌, length, take, drop, refl, sym, ap, subst, ◌∙◌, arith}
-use Rattle.std.proofs.lemmas.List.{take_all}
-use Rattle.hc_base.specs.Content.{Content}
-use Rattle.hc_page.specs.Drafts.{IsDraft, IsWhole, started}
+use Rattle.std.proofs.Common.{◌-◌, take, ◌∙◌, arith}
+use Rattle.hc_page.specs.Drafts.{started}
 use Rattle.hc_page.specs.Puts.{with_entries}
 use Rattle.hc_page.proofs.Entries.{entry_there}
 use Rattle.hc_page.proofs.Ranges.{range}
-use Rattle.hc_split.specs.Joined.{CanWrite, joined_entries, part_of}
+use Rattle.hc_split.specs.Joined.{joined_entries, part_of}
 use Rattle.hc_split.proofs.Writing.{can_begin, can_push, none_written, one_more, whole}
 use Rattle.hc_split.proofs.joined.Joined.write.Goals as goal
 

@@ -1,5 +1,5 @@
 -- The entries up to a number are written.
-use Rattle.std.proofs.Common.{◌≡◌, ◌-◌, take, drop}
+use Rattle.std.proofs.Common.{◌≡◌, ◌-◌, take}
 use Rattle.hc_base.specs.Content.{Content}
 use Rattle.hc_page.specs.Drafts.{IsDraft, started}
 use Rattle.hc_page.specs.Puts.{with_entries}
