@@ -1,5 +1,6 @@
 -- What reads, puts, checks and purges are answered, by what is kept of an open transaction and what was found.
 use Rattle.std.proofs.Common.{◌≡◌, ◌≢◌, ◌∙◌, ⊎_elim, refl, sym, ap, subst, inl, inr, ℕ, ◌+◌, ◌<◌, ◌≤◌, true, false, Option, List, [], ◌∷◌, length, arith, get_or, slice_set}
+use Rattle.hc_core.specs.Keys.{IsShortKey}
 use Rattle.std.proofs.lemmas.Bool.{cases_lt}
 use Rattle.std.proofs.lemmas.List.{set-get_or}
 use Rattle.hc_range.specs.declared.range.Range.{Range}
@@ -142,12 +143,12 @@ check_refused m i from upto r met h some found = inl (
 )
 
 -- a short key put by an undecided transaction
-pub settles_put : (key : List ℕ) (rec : Option (List ℕ)) (t : Txn) → t.place ≡ 0 → length key ≤ 463
+pub settles_put : (key : List ℕ) (rec : Option (List ℕ)) (t : Txn) → t.place ≡ 0 → IsShortKey key
     → Settles t (record t { write_set = record { key = key; rec = rec } ∷ t.write_set; puts = record { key = key; rec = rec } ∷ t.puts })
 settles_put key rec t undecided short = record {
   decided = λ some. absurd (some undecided);
   short = λ all other written. elim (written.1) [
-    | inl same ↦ subst (λ k. length k ≤ 463) (sym (ap (λ (w : Write). w.key) same)) short
+    | inl same ↦ subst (λ k. IsShortKey k) (sym (ap (λ (w : Write). w.key) same)) short
     | inr there ↦ all other (written.0, there)
   ];
 }
@@ -181,5 +182,5 @@ pub something_proposed : (ts : List Txn) (r : Running) → WhenOpen ts (Matches 
 something_proposed ts r h proposing none = when_never (Matches r) (λ t. t.proposed ≢ 0) ts (λ t k some. some (sym k.proposed ∙ none)) h proposing
 
 -- a write for which there is room has a short key
-pub reserved_short : (ts : List Txn) (r : Running) (key : List ℕ) (rec : Option (List ℕ)) → WhenOpen ts (Matches r) → WhenOpen ts (MayPutReserved key rec) → length key ≤ 463
-reserved_short ts r key rec h may = of_both (Matches r) (MayPutReserved key rec) (length key ≤ 463) ts h may (λ t k q. k.short (record { key = key; rec = rec }) q.3)
+pub reserved_short : (ts : List Txn) (r : Running) (key : List ℕ) (rec : Option (List ℕ)) → WhenOpen ts (Matches r) → WhenOpen ts (MayPutReserved key rec) → IsShortKey key
+reserved_short ts r key rec h may = of_both (Matches r) (MayPutReserved key rec) (IsShortKey key) ts h may (λ t k q. k.short (record { key = key; rec = rec }) q.3)

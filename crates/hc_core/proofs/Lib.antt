@@ -5,7 +5,6 @@ pub mod CellOrder
 pub mod Changed
 pub mod Conns
 pub mod Counted
-pub mod Covered
 pub mod Cutting
 pub mod DeskSteps
 pub mod Elements

@@ -1,5 +1,6 @@
 -- The keys that the log puts are short where those in the write sets of transactions are.
 use Rattle.std.proofs.Common.{inl, inr, refl, ℕ, zero, suc, ◌+◌, ◌≤◌, List, [], ◌∷◌, length, take, drop}
+use Rattle.hc_core.specs.Keys.{IsShortKey}
 use Rattle.hc_base.specs.Lookup.{Among}
 use Rattle.hc_core.specs.Account.{Txn, HoldsKey, HasWritten}
 use Rattle.hc_core.specs.Commits.{AreCommits, AreShort, AreShortWrites}
@@ -7,13 +8,13 @@ use Rattle.hc_core.specs.declared.cells.Write.{Write}
 use Rattle.hc_core.specs.declared.commit.Commit.{Commit}
 
 -- writes of short keys alone are short
-short_writes : (ws : List Write) → ((key : List ℕ) → HoldsKey ws key → length key ≤ 463) → AreShortWrites ws
+short_writes : (ws : List Write) → ((key : List ℕ) → HoldsKey ws key → IsShortKey key) → AreShortWrites ws
 short_writes [] each = tt
 short_writes (w ∷ ws) each = (each w.key (w.rec, inl refl), short_writes ws (λ key held. each key (held.0, inr held.1)))
 
 -- the log's keys are short
 pub short_logged : (of : ℕ → List Txn) (c : ℕ) (commits : List Commit) → AreCommits of c commits
-    → ((i : ℕ) (t : Txn) (key : List ℕ) → Among t (of i) → HasWritten t key → length key ≤ 463) → AreShort commits
+    → ((i : ℕ) (t : Txn) (key : List ℕ) → Among t (of i) → HasWritten t key → IsShortKey key) → AreShort commits
 short_logged of c [] are each = tt
 short_logged of c (commit ∷ commits) are each = (
   short_writes commit.writes.items

@@ -3,7 +3,8 @@ use Rattle.std.proofs.Common.{◌≡◌, ◌≢◌, ℕ, List, [], ◌∷◌, �
 use Rattle.std.specs.Str.{bytes_eq}
 use Rattle.hc_range.specs.declared.range.Range.{Range}
 use Rattle.hc_range.specs.Ranges.{InAny, InRange}
-use Rattle.hc_core.specs.Account.{Txn, PartRead, Refusal, HasRead, after_read, after_put, after_check, after_decide, after_reserve, after_unput, weight_of, without}
+use Rattle.hc_reads.specs.Gathered.{HaveSameKeys}
+use Rattle.hc_core.specs.Account.{Txn, PartRead, Refusal, HasRead, WhenOpen, after_read, after_put, after_check, after_decide, after_reserve, after_unput, weight_of, without}
 use Rattle.hc_core.specs.Calls.{AreShortKeys}
 use Rattle.hc_core.specs.Running.{HaveSameWrites, Matches}
 use Rattle.hc_core.specs.WriteSet.{HasAllOf, Held}
@@ -41,6 +42,26 @@ matches_read r log part found t grown h = record {
   reserved = h.reserved;
   short = h.short;
 }
+
+-- what is kept, with the same keys read, matches the transaction still
+pub matches_same : (r : Running) (log : List Range) (t : Txn) → HaveSameKeys r.reads log → Matches r t → Matches (record r { reads = log }) t
+matches_same r log t same h = record {
+  id = h.id;
+  unweighed = h.unweighed;
+  ord = h.ord;
+  snapshot = h.snapshot;
+  proposed = h.proposed;
+  place = h.place;
+  reads = λ key. (λ a. (h.reads key).0 ((same key).1 a), λ a. (same key).0 ((h.reads key).1 a));
+  checked = h.checked;
+  writes = h.writes;
+  reserved = h.reserved;
+  short = h.short;
+}
+
+pub open_same : (r : Running) (log : List Range) (ts : List Txn) → HaveSameKeys r.reads log → WhenOpen ts (Matches r) → WhenOpen ts (Matches (record r { reads = log }))
+open_same r log [] same h = h
+open_same r log (t ∷ ts) same h = (h.0, matches_same r log t same h.1)
 
 -- what is kept, with a log of checks grown by a part, matches the transaction after its check
 pub matches_checked : (r : Running) (log : List Range) (part : Range) (t : Txn)

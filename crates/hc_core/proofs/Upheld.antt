@@ -1,5 +1,6 @@
 -- What the machine keeps holds again after an event whose answer the table gives.
 use Rattle.std.proofs.Common.{◌≡◌, ◌≢◌, ◌∙◌, inl, refl, sym, ap, subst, ℕ, ◌+◌, ◌<◌, ◌≤◌, ◌^◌, List, [], ◌∷◌, ◌++◌, length, get_or, slice_set, replicate, arith, None}
+use Rattle.hc_core.specs.Keys.{IsShortKey}
 use Rattle.std.proofs.lemmas.List.{length-replicate, length-set}
 use Rattle.hc_base.specs.Lookup.{Among, but}
 use Rattle.hc_core.specs.Account.{Txn, HasWritten, WhenOpen, after_entry, after_event, after_reserve, begun_at, newest_changed}
@@ -22,7 +23,7 @@ use Rattle.hc_core.proofs.SoundRuns.{sound_with, start_sound, step_sound}
 -- what the log and the bound on keys rest on: where it is decided, who it is and what it put; and short keys
 pub record Settles (t new : Txn) : Type 0 where
   pub decided : t.place ≢ 0 → (new.place ≡ t.place) × (new.id ≡ t.id) × (new.ord ≡ t.ord) × (new.write_set ≡ t.write_set)
-  pub short : ((key : List ℕ) → HasWritten t key → length key ≤ 463) → (key : List ℕ) → HasWritten new key → length key ≤ 463
+  pub short : ((key : List ℕ) → HasWritten t key → IsShortKey key) → (key : List ℕ) → HasWritten new key → IsShortKey key
 
 -- an entry of the log stays one where the newest transaction of a connection changes
 commit_changed : (of : ℕ → List Txn) (i : ℕ) (t new : Txn) (rest : List Txn) (c : ℕ) (commit : Commit) → of i ≡ t ∷ rest → Settles t new → 0 < c
@@ -74,7 +75,7 @@ kept_with : (drawn room larger more : ℕ) (commits longer : List Commit) (accou
     → IsKept drawn commits room accounts → account ≡ entry ∷ get_or accounts i [] → i < length accounts
     → IsSound (machine_of more longer (with_entry (machine_of drawn commits accounts) i entry).accounts)
     → after_entry entry (txns_of (machine_of drawn commits accounts) i) ≡ now → AreCommits (but (txns_of (machine_of drawn commits accounts)) i now) 1 longer
-    → ((j : ℕ) (u : Txn) → Among u (but (txns_of (machine_of drawn commits accounts)) i now j) → (key : List ℕ) → HasWritten u key → length key ≤ 463)
+    → ((j : ℕ) (u : Txn) → Among u (but (txns_of (machine_of drawn commits accounts)) i now j) → (key : List ℕ) → HasWritten u key → IsShortKey key)
     → more < 2 ^ 32 → more ≤ larger → IsKept more longer larger (slice_set accounts i account)
 kept_with drawn room larger more commits longer accounts i account entry now kept is within sound as_now logged short bounded roomy =
     let m = machine_of drawn commits accounts in
@@ -92,9 +93,9 @@ kept_with drawn room larger more commits longer accounts i account entry now kep
 -- a short key is where one was, and where one comes
 short_with : (drawn room : ℕ) (commits : List Commit) (accounts : List (List Entry)) (i : ℕ) (t new : Txn) (rest : List Txn)
     → IsKept drawn commits room accounts → txns_of (machine_of drawn commits accounts) i ≡ t ∷ rest → Settles t new
-    → (j : ℕ) (u : Txn) → Among u (but (txns_of (machine_of drawn commits accounts)) i (new ∷ rest) j) → (key : List ℕ) → HasWritten u key → length key ≤ 463
+    → (j : ℕ) (u : Txn) → Among u (but (txns_of (machine_of drawn commits accounts)) i (new ∷ rest) j) → (key : List ℕ) → HasWritten u key → IsShortKey key
 short_with drawn room commits accounts i t new rest kept is settles =
-    each_either (txns_of (machine_of drawn commits accounts)) i t rest is new (λ j u. (key : List ℕ) → HasWritten u key → length key ≤ 463)
+    each_either (txns_of (machine_of drawn commits accounts)) i t rest is new (λ j u. (key : List ℕ) → HasWritten u key → IsShortKey key)
     (settles.short (λ key written. kept.short i t key (subst (Among t) (sym is) (inl refl)) written))
     (λ j u there key written. kept.short j u key there written)
 
@@ -121,7 +122,7 @@ module _ (drawn : ℕ) (commits : List Commit) (accounts : List (List Entry)) (i
   pub kept_entered : (room larger more : ℕ) (longer : List Commit) (now : List Txn) → IsKept drawn commits room accounts → Answers m same outcome
       → i < length accounts → after m same outcome ≡ machine_of more longer (entered m i same outcome).accounts
       → after_event same outcome (txns_of m i) ≡ now → AreCommits (but (txns_of m) i now) 1 longer
-      → ((j : ℕ) (u : Txn) → Among u (but (txns_of m) i now j) → (key : List ℕ) → HasWritten u key → length key ≤ 463)
+      → ((j : ℕ) (u : Txn) → Among u (but (txns_of m) i now j) → (key : List ℕ) → HasWritten u key → IsShortKey key)
       → more < 2 ^ 32 → more ≤ larger → IsKept more longer larger (slice_set accounts i account)
   kept_entered room larger more longer now kept answers within as_after as_now logged short bounded roomy =
       kept_with drawn room larger more commits longer accounts i account (entry_of same outcome) now kept (is ∙ ap (λ e. entry_of e outcome ∷ get_or accounts i []) form) within
@@ -129,7 +130,7 @@ module _ (drawn : ℕ) (commits : List Commit) (accounts : List (List Entry)) (i
 
   -- a short key is where one was, and where one comes
   pub short_changed : (room : ℕ) (t new : Txn) (rest : List Txn) → IsKept drawn commits room accounts → txns_of m i ≡ t ∷ rest → Settles t new
-      → (j : ℕ) (u : Txn) → Among u (but (txns_of m) i (new ∷ rest) j) → (key : List ℕ) → HasWritten u key → length key ≤ 463
+      → (j : ℕ) (u : Txn) → Among u (but (txns_of m) i (new ∷ rest) j) → (key : List ℕ) → HasWritten u key → IsShortKey key
   short_changed room t new rest = short_with drawn room commits accounts i t new rest
 
   -- the newest transaction changes, and neither the log nor the number of ids does
@@ -150,7 +151,7 @@ module _ (drawn : ℕ) (commits : List Commit) (accounts : List (List Entry)) (i
   kept_begun room snapshot kept answers within as_after as_change =
       kept_entered room room drawn commits (begun_at snapshot ∷ txns_of m i) kept answers within as_after (as_change (txns_of m i))
       (commits_grown (txns_of m) i (begun_at snapshot) 1 commits kept.logged)
-      (each_grown (txns_of m) i (begun_at snapshot) (λ j u. (key : List ℕ) → HasWritten u key → length key ≤ 463)
+      (each_grown (txns_of m) i (begun_at snapshot) (λ j u. (key : List ℕ) → HasWritten u key → IsShortKey key)
       (λ key written. absurd written.1) (λ j u there key written. kept.short j u key there written))
       kept.bounded kept.roomy
 

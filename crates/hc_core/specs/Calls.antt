@@ -1,5 +1,6 @@
 -- What the calls that a desk makes of the machine ask and tell.
 use Rattle.std.specs.Prelude.{◌≡◌, ◌≢◌, ℕ, ◌+◌, ◌≤◌, Bool, true, false, Option, None, List, [], ◌∷◌, ◌++◌, length}
+use Rattle.hc_core.specs.Keys.{IsShortKey}
 use Rattle.hc_range.specs.declared.range.Range.{Range}
 use Rattle.hc_range.specs.Ranges.{InRange}
 use Rattle.hc_base.specs.Lookup.{Among}
@@ -18,7 +19,7 @@ AreSnapshotCells m i range cells = WhenOpen (txns_of m i) (λ t. AreCellsAfter (
 
 -- each of the cells has a key that can be stored
 abbrev pub HaveShortKeys : List Cell → Type 0
-HaveShortKeys cells = (cell : Cell) → Among cell cells → length cell.key ≤ 463
+HaveShortKeys cells = (cell : Cell) → Among cell cells → IsShortKey cell.key
 
 -- cells are there in front, and perhaps more
 abbrev pub IsExtended : List Cell → List Cell → Type 0
@@ -36,14 +37,14 @@ abbrev pub HasLast : ℕ → Range → Bool → Machine → Machine → List Cel
 HasLast i range true m now cells_before cells_after = (cell : Cell)
     × Answers m (Read i cell.key range.hi) (Cells (record { cells = cell ∷ [] }))
     × (now ≡ after m (Read i cell.key range.hi) (Cells (record { cells = cell ∷ [] })))
-    × (cells_after ≡ cells_before ++ cell ∷ []) × InRange range cell.key × (length cell.key ≤ 463)
+    × (cells_after ≡ cells_before ++ cell ∷ []) × InRange range cell.key × (IsShortKey cell.key)
 HasLast i range false m now cells_before cells_after =
     Answers m (Read i range.lo range.hi) (Cells (record { cells = [] }))
     × (now ≡ after m (Read i range.lo range.hi) (Cells (record { cells = [] }))) × (cells_after ≡ cells_before)
 
 -- each key can be named in a refusal
 abbrev pub AreShortKeys : List Write → Type 0
-AreShortKeys writes = (w : Write) → Among w writes → length w.key ≤ 463
+AreShortKeys writes = (w : Write) → Among w writes → IsShortKey w.key
 
 -- the next id was drawn, by a transaction that has written nothing and has no room yet
 pub record HasDrawn (i ord : ℕ) (m now : Machine) : Type 0 where

@@ -1,6 +1,7 @@
 -- What the machine keeps of the log at run time: the committed transactions with what they put, in the order of
 -- their commit numbers.
 use Rattle.std.specs.Prelude.{◌≡◌, ℕ, ◌+◌, ◌-◌, ◌<◌, ◌≤◌, ◌⊎◌, Bool, true, false, Option, Some, None, List, [], ◌∷◌, ◌++◌, cond, drop, get_or, length, map, not, take, ◌&&◌}
+use Rattle.hc_core.specs.Keys.{IsShortKey}
 use Rattle.std.specs.Str.{bytes_eq}
 use Rattle.std.specs.List.{list_any}
 use Rattle.hc_range.specs.declared.range.Range.{Range}
@@ -79,7 +80,7 @@ cells_of range cells (commit ∷ commits) = cells_of range (cells_with range cel
 -- no key has more bytes than a stored key may have
 abbrev pub AreShortWrites : List Write → Type 0
 AreShortWrites [] = Unit {0}
-AreShortWrites (w ∷ ws) = (length w.key ≤ 463) × AreShortWrites ws
+AreShortWrites (w ∷ ws) = (IsShortKey w.key) × AreShortWrites ws
 
 abbrev pub AreShort : List Commit → Type 0
 AreShort [] = Unit {0}

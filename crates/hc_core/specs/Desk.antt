@@ -1,5 +1,6 @@
 -- What the calls of a desk ask and tell, in terms of accounts alone.
 use Rattle.std.specs.Prelude.{◌≡◌, ◌≢◌, ℕ, ◌≤◌, ◌⊎◌, true, Option, Some, None, Result, Ok, Err, List, [], ◌∷◌, ◌++◌, length}
+use Rattle.hc_core.specs.Keys.{IsShortKey}
 use Rattle.hc_base.specs.Entries.{entry_fits}
 use Rattle.hc_base.specs.declared.full.Full.{Full as FullOf}
 use Rattle.hc_base.specs.declared.numbers.Cid.{Cid}
@@ -91,7 +92,7 @@ HasRead conn from upto before after cells_before cells_after = (cells : List Cel
 abbrev pub HasReadLast : ℕ → Range → List Entry → List Entry → List Cell → List Cell → Type 0
 HasReadLast conn range before after cells_before cells_after = (cell : Cell)
     × (after ≡ entry_of (Read conn cell.key range.hi) (Cells (record { cells = cell ∷ [] })) ∷ before)
-    × (cells_after ≡ cells_before ++ cell ∷ []) × InRange range cell.key × (length cell.key ≤ 463)
+    × (cells_after ≡ cells_before ++ cell ∷ []) × InRange range cell.key × (IsShortKey cell.key)
 
 -- a range was read whole, and has no cell
 abbrev pub HasReadNone : ℕ → Range → List Entry → List Entry → List Cell → List Cell → Type 0

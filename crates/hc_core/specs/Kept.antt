@@ -1,5 +1,6 @@
 -- What the machine keeps at run time, which machine it is, and what holds of it between two events.
 use Rattle.std.specs.Prelude.{◌≢◌, None, ℕ, ◌<◌, ◌≤◌, ◌^◌, List, length, map}
+use Rattle.hc_core.specs.Keys.{IsShortKey}
 use Rattle.hc_base.specs.Lookup.{Among}
 use Rattle.hc_core.specs.Account.{Txn, HasWritten, WhenOpen}
 use Rattle.hc_core.specs.Commits.{AreCommits}
@@ -20,7 +21,7 @@ pub record IsKept (drawn : ℕ) (commits : List Commit) (room : ℕ) (accounts :
   -- the log has what the transactions put
   pub logged : AreCommits (txns_of (machine_of drawn commits accounts)) 1 commits
   -- a key that is in the write set can be named in a refusal
-  pub short : (i : ℕ) (t : Txn) (key : List ℕ) → Among t (txns_of (machine_of drawn commits accounts) i) → HasWritten t key → length key ≤ 463
+  pub short : (i : ℕ) (t : Txn) (key : List ℕ) → Among t (txns_of (machine_of drawn commits accounts) i) → HasWritten t key → IsShortKey key
   -- connections are numbers of 32 bits
   pub few : length accounts < 2 ^ 32
   -- ids are numbers of 32 bits
@@ -30,7 +31,7 @@ pub record IsKept (drawn : ℕ) (commits : List Commit) (room : ℕ) (accounts :
 
 -- a put has a key of at most 463 bytes
 abbrev pub PutsShortKey : Event → Type 0
-PutsShortKey (Put conn key rec) = length key ≤ 463
+PutsShortKey (Put conn key rec) = IsShortKey key
 PutsShortKey _ = Unit {0}
 
 -- only a draw, a read, a put and a check may want memory

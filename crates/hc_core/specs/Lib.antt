@@ -2,6 +2,7 @@ pub mod Diary
 pub mod Said
 pub mod Account
 pub mod Commits
+pub mod Keys
 pub mod Base
 pub mod Versions
 pub mod Machine

@@ -1,5 +1,6 @@
 -- What the machine keeps of a connection at run time, and how it agrees with the connection's account.
 use Rattle.std.specs.Prelude.{◌≡◌, ◌≢◌, ℕ, ◌≤◌, length, Bool, false, max, Option, Some, None, List, [], ◌∷◌, ◌↔◌}
+use Rattle.hc_core.specs.Keys.{IsShortKey}
 use Rattle.std.specs.Str.{bytes_eq}
 use Rattle.std.specs.List.{list_any}
 use Rattle.hc_range.specs.Ranges.{InAny}
@@ -27,7 +28,7 @@ pub record Matches (r : Running) (t : Txn) : Type 0 where
   pub checked : t.weight ≡ None → (key : List ℕ) → InAny r.checked key ↔ InAny t.checked key
   pub writes : t.place ≡ 0 → HaveSameWrites r.writes.put t.write_set
   pub reserved : t.place ≡ 0 → HasAllOf t.reserved r.writes.all
-  pub short : (w : Write) → Among w t.reserved → length w.key ≤ 463
+  pub short : (w : Write) → Among w t.reserved → IsShortKey w.key
 
 -- what is kept of a connection's open transaction, if it has one
 abbrev pub IsOpenIn : Option Running → List Txn → Type 0

@@ -1,10 +1,8 @@
 // What is kept of an open transaction tells which events are enabled.
-ghost use Rattle.std.specs.Prelude.{◌≡◌, ◌≢◌, ◌⊎◌, ◌↔◌, ℕ, List, [], IsTrue};
-ghost use Rattle.hc_range.specs.Ranges.{InAny};
+ghost use Rattle.std.specs.Prelude.{◌≡◌, ◌≢◌, ◌⊎◌, ◌↔◌, [], IsTrue};
 ghost use Rattle.hc_core.specs.Running.{MayDecide, MayPut};
 
 use crate::running::Running;
-use hc_range::{Range, ReadLog};
 
 /// Whether a transaction may put a key.
 pub fn may_put(running: &Running, key: &[u8]) -> bool
@@ -17,21 +15,7 @@ pub fn may_put(running: &Running, key: &[u8]) -> bool
 pub fn may_decide(running: &Running) -> bool
     ensures { IsTrue result ↔ MayDecide running.now }
 {
-    running.proposed != 0
-        && running.place == 0
-        && includes_all(&running.checked, running.reads.ranges())
-}
-
-/// Whether a log includes each of the ranges.
-pub fn includes_all(log: &ReadLog, ranges: &[Range]) -> bool
-    ensures { IsTrue result ↔ ((key : List ℕ) → InAny ranges.now key → InAny log.now key) }
-{
-    for range in ranges {
-        if !log.includes(range) {
-            return false;
-        }
-    }
-    true
+    running.proposed != 0 && running.place == 0 && running.reads.is_within(&running.checked)
 }
 
 /// Whether it is decided, or its write set is empty.

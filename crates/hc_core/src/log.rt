@@ -1,5 +1,6 @@
 // Questions to the log.
 ghost use Rattle.std.specs.Prelude.{◌≡◌, ◌+◌, ◌-◌, ◌<◌, ◌≤◌, None, drop, length, MatchOption};
+ghost use Rattle.hc_core.specs.Keys.{IsShortKey};
 ghost use Rattle.hc_core.specs.Account.{part_of};
 ghost use Rattle.hc_core.specs.Commits.{AreShort, AreShortWrites, HasNoTombstone, IsLastTombstone, IsLastWith, IsMetAbove, IsMetAt, IsMetBetween, IsNoneAbove, NoneIsWith, holds_tombstone, is_in, is_tombstone, least_between, least_of, least_with, lesser, writes_at};
 
@@ -60,7 +61,7 @@ fn lies_between(from: &[u8], upto: &Option<Bytes>, key: &[u8]) -> bool
 
 // The lesser of the best key so far and a key.
 fn lesser(best: Option<KeyBuf>, key: &[u8]) -> Option<KeyBuf>
-    requires { length key.now ≤ 463 }
+    requires { IsShortKey key.now }
     ensures { result ≡ lesser best key.now }
 {
     match best {
@@ -169,7 +170,7 @@ pub fn found_between(
 /// What a put of a key meets in the log: the last commit that put it, if that is above a snapshot. It looks at the commits
 /// above the snapshot alone.
 pub fn met_above(log: &[Commit], snapshot: usize, key: &[u8]) -> Option<Met>
-    requires { length key.now ≤ 463 }
+    requires { IsShortKey key.now }
     ensures { MatchOption result (IsNoneAbove snapshot key.now log.now) (λ met. IsMetAbove snapshot key.now log.now met) }
 {
     let Some(place) = newest_from(log, snapshot, key) else {

@@ -1,5 +1,6 @@
 ghost use Rattle.std.specs.Prelude.{◌⊎◌, ◌↔◌, IsTrue, true, ◌≡◌, ◌≢◌, ◌^◌, ◌-◌, ℕ, ◌<◌, ◌≤◌, [], Option, None, MatchOption, IfOk, OnOk, OnErr, length, replicate};
 ghost use Rattle.std.specs.Option.{option_copied};
+ghost use Rattle.hc_core.specs.Keys.{IsShortKey};
 ghost use Rattle.hc_core.specs.Account.{IsIdle, HasWritten, Txn, WhenOpen};
 ghost use Rattle.hc_core.specs.Calls.{AreShortKeys, AreSnapshotCells, HasDrawn, HasLast, HasMadeRoom, HasReadCells, HaveShortKeys, IsExtended, MayPutReserved};
 ghost use Rattle.hc_core.specs.Desk.{decide_outcome, put_outcome};
@@ -322,7 +323,7 @@ impl Core {
 
     // Puts a record or a tombstone at a key, unless something is in its way.
     fn put(&mut self, conn: u32, key: &[u8], rec: Option<&[u8]>) -> Result<Outcome, NoMemory>
-        requires short { length key.now ≤ 463 }
+        requires short { IsShortKey key.now }
         ensures answer { IfOk result (λ outcome. Answers self.old (Put conn key.now (option_copied rec.entry)) outcome) }
         ensures after { IfOk result (λ outcome. self.new ≡ after self.old (Put conn key.now (option_copied rec.entry)) outcome) }
         ensures no_memory { OnErr result (self.new ≡ self.old) }
@@ -374,7 +375,7 @@ impl Core {
 
     // What a put of a key with a snapshot meets, where the connection itself has not put it.
     fn in_the_way(&self, conn: u32, snapshot: usize, key: &[u8]) -> Option<Met>
-        requires short { length key.now ≤ 463 }
+        requires short { IsShortKey key.now }
         requires own { WhenOpen (txns_of self.now conn) (λ t. (t.place ≡ 0) × HasWritten t key.now) → ⊥ }
         ensures { MatchOption result
             ((i : ℕ) → IsFree (txns_of self.now) i snapshot key.now)

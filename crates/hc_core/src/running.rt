@@ -4,6 +4,7 @@ ghost use Rattle.hc_core.specs.Running.{holds_key};
 use crate::Write;
 use crate::write_set::WriteSet;
 use hc_range::ReadLog;
+use hc_reads::Reads;
 use std::alloc::Global;
 
 /// What the machine keeps of a connection's open transaction. The numbers count from 1: 0 says that no
@@ -16,7 +17,7 @@ pub struct Running {
     pub proposed: u32,
     pub place: u32,
     /// The keys that it read.
-    pub reads: ReadLog,
+    pub reads: Reads,
     /// The write set, until it is decided, and the writes for which there is room.
     pub writes: WriteSet,
     /// The keys that were checked for the proposal.
@@ -35,7 +36,7 @@ impl Running {
             snapshot,
             proposed: 0,
             place: 0,
-            reads: ReadLog::new(alloc),
+            reads: Reads::new(alloc),
             writes: WriteSet::of(Vec::new(alloc)),
             checked: ReadLog::new(alloc),
         }

@@ -1,5 +1,6 @@
 // Questions to the open transactions of all connections.
 ghost use Rattle.std.specs.Prelude.{◌≡◌, ◌≢◌, ◌↔◌, ℕ, ◌<◌, ◌≤◌, ◌^◌, [], IsTrue, MatchOption, length, get_or, true, false};
+ghost use Rattle.hc_core.specs.Keys.{IsShortKey};
 ghost use Rattle.hc_core.specs.Account.{HasWritten, WhenOpen, txns};
 ghost use Rattle.hc_core.specs.Machine.{Names};
 
@@ -28,7 +29,7 @@ pub fn writer_in(conn: &Conn, key: &[u8]) -> Option<(u32, u32)>
 
 /// The undecided transaction of another connection that has a key in its write set, if there is one.
 pub fn open_writer(conns: &[Conn], own: u32, key: &[u8]) -> Option<Met>
-    requires short { length key.now ≤ 463 }
+    requires short { IsShortKey key.now }
     requires few { length conns.now < 2 ^ 32 }
     ensures { MatchOption result
         ((i : ℕ) → i ≢ own → WhenOpen (txns (get_or conns.now i [])) (λ t. (t.place ≡ 0) × HasWritten t key.now) → ⊥)
