@@ -1,3 +1,4 @@
 pub mod Guards
 pub mod Reserved
 pub mod Turning
+pub mod Meddling

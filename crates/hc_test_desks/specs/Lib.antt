@@ -1,3 +1,4 @@
 pub mod Guarded
 pub mod Putting
 pub mod Turns
+pub mod Meddled

@@ -1,5 +1,4 @@
 ghost use Rattle.std.specs.Prelude.{◌≡◌, ℕ, List, [], IsTrue, IfOk, OnOk};
-ghost use Rattle.hc_range.specs.Ranges.{InAny};
 ghost use Rattle.hc_core.specs.Account.{HoldsKey, part_of, without};
 ghost use Rattle.hc_core.specs.Desk.{GoesOn, end_of};
 ghost use Rattle.hc_core.specs.Running.{holds_key};
@@ -11,6 +10,7 @@ use crate::phases::{may_be_reserved, put};
 use hc_base::Cid;
 use hc_core::{Desk, Lost, Met, Next, NoMemory, Part, ReserveFault, Write};
 use hc_range::{Bytes, Range, ReadLog, contains};
+use hc_reads::includes_all;
 use std::alloc::Global;
 use std::mem::replace;
 
@@ -385,18 +385,6 @@ fn are_all_put(writes: &[Write], put: &[Write]) -> bool
 {
     for write in writes {
         if !has_key(put, write.key.as_slice()) {
-            return false;
-        }
-    }
-    true
-}
-
-// Whether a log includes each of the ranges.
-fn includes_all(log: &ReadLog, ranges: &[Range]) -> bool
-    ensures { IsTrue result → (key : List ℕ) → InAny ranges.now key → InAny log.now key }
-{
-    for range in ranges {
-        if !log.includes(range) {
             return false;
         }
     }
