@@ -1,6 +1,11 @@
+mod Aggregates
+mod Bytes
 mod Columns
 mod Conditions
+mod FirstPlaces
 mod Forms
 mod Judging
+mod Keys
 mod Slots
+mod Stars
 mod Statements

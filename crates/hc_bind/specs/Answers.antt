@@ -6,7 +6,9 @@ use Rattle.hc_schema.specs.declared.table.Table.{Table}
 use Rattle.hc_schema.specs.declared.bound_statement.BoundStmt.{BoundStmt}
 use Rattle.hc_schema.specs.Binding.Faults.{Fault, Judged, after}
 use Rattle.hc_schema.specs.Binding.Faults as why
-use Rattle.hc_schema.specs.Binding.Statements.{Binding, binding, binding_of}
+use Rattle.hc_ast.specs.declared.query.Select.{Select as Query}
+use Rattle.hc_schema.specs.Binding.Queries.{is_grouped, query}
+use Rattle.hc_schema.specs.Binding.Statements.{Select as Bound-Select, Binding, binding, binding_of}
 use Rattle.hc_bind.specs.declared.fault.BindFault.{BindFault}
 use Rattle.hc_bind.specs.declared.fault.BindFault.TheVariants.{NoTable, NoColumn, Ambiguous, TwoColumns, NoFunction, Mixed, Aggregate, Arity, NoItem, NotItem, NoMemory}
 
@@ -53,13 +55,24 @@ Found judged (Ok None) = ⊥
 Found judged (Ok (Some bound)) = judged ≡ Ok (binding_of bound)
 Found judged (Err e) = IsWhy e judged
 
--- whether a statement is a query
-abbrev pub is_query : Stmt → Bool
-is_query (Select q) = true
-is_query s = false
+-- whether a statement is a query with groups
+abbrev pub has_groups : Stmt → Bool
+has_groups (Select q) = is_grouped q
+has_groups s = false
 
--- None is answered of queries alone, and otherwise what is judged
-abbrev pub AnswersChange : List Table → Stmt → Result (Option BoundStmt) BindFault → Type 0
-AnswersChange tables s (Ok None) = is_query s ≡ true
-AnswersChange tables s (Ok (Some bound)) = binding tables s ≡ Ok (binding_of bound)
-AnswersChange tables s (Err e) = IsWhy e (binding tables s)
+-- None is answered of queries with groups alone, and otherwise what is judged
+abbrev pub AnswersUngrouped : List Table → Stmt → Result (Option BoundStmt) BindFault → Type 0
+AnswersUngrouped tables s (Ok None) = has_groups s ≡ true
+AnswersUngrouped tables s (Ok (Some bound)) = binding tables s ≡ Ok (binding_of bound)
+AnswersUngrouped tables s (Err e) = IsWhy e (binding tables s)
+
+-- what is kept goes on to what is judged
+abbrev pub TellsTo : {S : Type 0} → Judged S → S → Result Unit BindFault → Type 0
+TellsTo judged now (Ok done) = judged ≡ Ok now
+TellsTo judged now (Err e) = IsWhy e judged
+
+-- the same of a query
+abbrev pub AnswersQuery : List Table → Query → Result (Option BoundStmt) BindFault → Type 0
+AnswersQuery tables q (Ok None) = is_grouped q ≡ true
+AnswersQuery tables q (Ok (Some bound)) = after (query tables q) (λ b. Ok (Bound-Select b)) ≡ Ok (binding_of bound)
+AnswersQuery tables q (Err e) = IsWhy e (query tables q)

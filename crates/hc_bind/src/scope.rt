@@ -45,7 +45,7 @@ pub fn counted(n: usize) -> Result<u32, BindFault>
 }
 
 /// A name that is told, or that memory ran out.
-fn no_table(alloc: Global, name: &str) -> BindFault
+pub fn no_table(alloc: Global, name: &str) -> BindFault
     ensures { FaultIs result (No-table name.now) }
 {
     match Str::from_text(alloc, name) {

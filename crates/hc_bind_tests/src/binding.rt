@@ -1,8 +1,9 @@
 // Statements with their bound forms and faults.
 use crate::cases::{CHANGES, CONDITIONS, FAULTS, OPERATORS, WRITES};
+use crate::query_cases::{NAMES, ORDERS, QUERY_CONDITIONS};
 use crate::shown::push_statement;
 use hc_ast::Stmt;
-use hc_bind::bind_change;
+use hc_bind::bind_ungrouped;
 use hc_lex::tokens;
 use hc_parse::parse;
 use hc_schema::{Column, Table};
@@ -66,9 +67,9 @@ fn tables(alloc: Global) -> Result<[Table; 3], NoMemory> {
 fn shown(alloc: Global, s: &Stmt) -> Result<String, Fail> {
     let tables = tables(alloc)?;
     let mut out = String::new(alloc);
-    match bind_change(alloc, s, &tables) {
+    match bind_ungrouped(alloc, s, &tables) {
         Ok(Some(b)) => push_statement(&mut out, &b)?,
-        Ok(None) => out.push_str("a query")?,
+        Ok(None) => out.push_str("a query with groups")?,
         Err(fault) => write!(out, "{fault}")?,
     }
     Ok(out)
@@ -117,4 +118,19 @@ fn the_first_fault_is_told(rt: HostRuntime) -> Result<(), Fail> {
 #[test]
 fn values_go_to_their_columns(rt: HostRuntime) -> Result<(), Fail> {
     all_bind(&rt, rt.alloc(), &WRITES)
+}
+
+#[test]
+fn a_query_names_columns_of_its_tables(rt: HostRuntime) -> Result<(), Fail> {
+    all_bind(&rt, rt.alloc(), &NAMES)
+}
+
+#[test]
+fn a_query_has_the_conjuncts_of_all_its_conditions(rt: HostRuntime) -> Result<(), Fail> {
+    all_bind(&rt, rt.alloc(), &QUERY_CONDITIONS)
+}
+
+#[test]
+fn a_query_is_ordered_by_items_or_expressions(rt: HostRuntime) -> Result<(), Fail> {
+    all_bind(&rt, rt.alloc(), &ORDERS)
 }

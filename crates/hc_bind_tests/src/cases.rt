@@ -161,7 +161,7 @@ pub const CHANGES: [(&str, &str); 26] = [
     ("DELETE FROM t", "delete t"),
     ("CREATE TABLE z(a INTEGER) STRICT", "other"),
     ("COMMIT", "other"),
-    ("SELECT nope", "a query"),
+    ("SELECT nope", "no column nope"),
 ];
 
 pub const OPERATORS: [(&str, &str); 42] = [

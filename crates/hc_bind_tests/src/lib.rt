@@ -6,4 +6,6 @@ mod binding;
 #[cfg(test)]
 mod cases;
 #[cfg(test)]
+mod query_cases;
+#[cfg(test)]
 mod shown;

@@ -1,12 +1,12 @@
 // Bound statements as text.
 use hc_ast::{BinaryOp, Bound};
-use hc_schema::{BoundRow, BoundSet, BoundStmt};
+use hc_schema::{BoundRow, BoundSelect, BoundSet, BoundStmt, SortKey, Table};
 use hc_value::Value;
 use std::alloc::AllocError;
 
 pub fn push_statement(out: &mut String, s: &BoundStmt<'_>) -> Result<(), AllocError> {
     match s {
-        BoundStmt::Select(_) => out.push_str("a query"),
+        BoundStmt::Select(q) => push_query(out, q),
         BoundStmt::Insert {
             table,
             columns,
@@ -32,6 +32,37 @@ pub fn push_statement(out: &mut String, s: &BoundStmt<'_>) -> Result<(), AllocEr
         }
         BoundStmt::Other(_) => out.push_str("other"),
     }
+}
+
+fn push_query(out: &mut String, q: &BoundSelect<'_>) -> Result<(), AllocError> {
+    out.push_str("select ")?;
+    push_list(out, q.items.as_slice())?;
+    push_tables(out, q.tables.as_slice())?;
+    if q.distinct {
+        out.push_str(" | distinct")?;
+    }
+    push_part(out, " | where ", q.conjuncts.as_slice())?;
+    push_order(out, q.order.as_slice())?;
+    push_number(out, " | limit ", q.limit)?;
+    push_number(out, " | offset ", q.offset)
+}
+
+fn push_order(out: &mut String, order: &[SortKey]) -> Result<(), AllocError> {
+    let mut first = true;
+    for key in order {
+        push_head(out, first, " | order ")?;
+        first = false;
+        push_bound(out, &key.value)?;
+        push_direction(out, key.desc)?;
+    }
+    Ok(())
+}
+
+fn push_number(out: &mut String, head: &str, n: Option<i64>) -> Result<(), AllocError> {
+    if let Some(n) = n {
+        write!(out, "{head}{n}")?;
+    }
+    Ok(())
 }
 
 fn push_insert(
@@ -74,6 +105,20 @@ fn push_head(out: &mut String, is_first: bool, head: &str) -> Result<(), AllocEr
     } else {
         out.push_str(", ")
     }
+}
+
+fn push_direction(out: &mut String, desc: bool) -> Result<(), AllocError> {
+    if desc { out.push_str(" desc") } else { Ok(()) }
+}
+
+fn push_tables(out: &mut String, tables: &[&Table]) -> Result<(), AllocError> {
+    let mut first = true;
+    for table in tables {
+        push_head(out, first, " from ")?;
+        first = false;
+        out.push_str(table.name.as_str())?;
+    }
+    Ok(())
 }
 
 fn push_part(out: &mut String, head: &str, list: &[Bound]) -> Result<(), AllocError> {

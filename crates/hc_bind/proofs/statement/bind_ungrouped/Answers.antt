@@ -1,7 +1,10 @@
 use Rattle.std.proofs.Common.{◌∙◌, ap, sym}
 use Rattle.hc_schema.specs.Binding.Statements.{binding, insert, update, delete}
-use Rattle.hc_bind.proofs.Statements.{found_answers}
-use Rattle.hc_bind.proofs.statement.bind_change.Goals as goal
+use Rattle.hc_bind.proofs.Statements.{found_answers, query_answers}
+use Rattle.hc_bind.proofs.statement.bind_ungrouped.Goals as goal
+
+pub returns-in-Select : goal.returns-in-Select
+returns-in-Select c = query_answers c.args.tables.now c.args.stmt.now c.in-Select.q c.select.result c.in-Select.is c.select.ensures
 
 pub returns-in-Insert : goal.returns-in-Insert
 returns-in-Insert c =
