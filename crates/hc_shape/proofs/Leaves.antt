@@ -11,13 +11,13 @@ use Rattle.hc_base.proofs.Lookups.{but-same, but-other}
 use Rattle.hc_shape.specs.Leaves.{CanCut, LowsAscend, moved, number_in, number_of, with_next}
 
 -- the number that has a key is one of them
-there : (low : ℕ → List ℕ) (key : List ℕ) (here : ℕ) (more : List ℕ) → Among (number_in low key here more) (here ∷ more)
+pub there : (low : ℕ → List ℕ) (key : List ℕ) (here : ℕ) (more : List ℕ) → Among (number_in low key here more) (here ∷ more)
 there low key here [] = inl refl
 there low key here (n ∷ more) =
     cond_both (is_below key (low n)) here (number_in low key n more) (λ x. Among x (here ∷ n ∷ more)) (λ first. inl refl) (λ later. inr (there low key n more))
 
 -- each number to the right has a low fence above
-each_above : (low : ℕ → List ℕ) (k : List ℕ) (more : List ℕ) (m : ℕ) → All (λ other. IsBelow k other) (map low more) → Among m more → IsBelow k (low m)
+pub each_above : (low : ℕ → List ℕ) (k : List ℕ) (more : List ℕ) (m : ℕ) → All (λ other. IsBelow k other) (map low more) → Among m more → IsBelow k (low m)
 each_above low k [] m all after = absurd after
 each_above low k (n ∷ more) m all (inl e) = subst (λ x. IsBelow k (low x)) (sym e) (All-head (λ other. IsBelow k other) (low n) (map low more) all)
 each_above low k (n ∷ more) m all (inr after) = each_above low k more m (All-tail (λ other. IsBelow k other) (low n) (map low more) all) after

@@ -1,5 +1,5 @@
 -- The halves at the cut are what the relations of the plans say.
-use Rattle.std.proofs.Common.{◌≡◌, refl, sym, subst, ℕ, zero, suc, ◌<◌, List, length, take, drop, arith, length-drop, length-take-le}
+use Rattle.std.proofs.Common.{◌≡◌, refl, sym, ap, subst, ℕ, zero, suc, ◌<◌, List, length, take, drop, arith, length-drop, length-take-le}
 use Rattle.std.proofs.lemmas.List.{take-append-drop}
 use Rattle.hc_range.specs.Order.{IsAtMost, IsBelow}
 use Rattle.hc_base.specs.declared.numbers.Logical.{Logical}
@@ -42,6 +42,7 @@ put_halved c e fresh k leaf up cut =
           (of_keys (λ key. IsBelow key (cut_at es k)) e (take k es) (below_cut k es up (within c fresh es k cut)))
           (of_keys (λ key. IsAtMost (cut_at es k) key) e (drop k es) (from_cut k es up)) (take-append-drop k es);
       cut = cut_again c fresh es k cut;
+      fence = ap (cut_at es) (sym (long c fresh es k cut));
     }
 
 pub halved_inner : (c : Content) (key : List ℕ) (child fresh : Logical) (k : ℕ) → 0 < c.level → IsCut c fresh (put_entry (child_of key child) c.entries) k

@@ -33,7 +33,7 @@ key_same a b h =
       ]
     ]
 
-but_key-other : {A : Type 0} (f : List ℕ → A) (at : List ℕ) (x : A) (key : List ℕ) → is_same_key at key ≡ false → but_key f at x key ≡ f key
+pub but_key-other : {A : Type 0} (f : List ℕ → A) (at : List ℕ) (x : A) (key : List ℕ) → is_same_key at key ≡ false → but_key f at x key ≡ f key
 unfolding but_key
 but_key-other f at x key h = ap (λ b. cond b x (f key)) h
 

@@ -5,7 +5,7 @@ use Rattle.hc_base.specs.declared.numbers.Logical.{Logical}
 use Rattle.hc_base.specs.Content.{Content, Entry}
 use Rattle.hc_page.specs.Drafts.{child_of}
 use Rattle.hc_page.specs.Puts.{put_entry, with_entries, with_entry}
-use Rattle.hc_shape.specs.Halves.{IsCut}
+use Rattle.hc_shape.specs.Halves.{IsCut, cut_at}
 use Rattle.hc_shape.specs.Versions.{HasPut, HasPutHalved, HasUnput}
 
 -- only the entries differ: level, number, link, fences and mark are the old ones
@@ -30,20 +30,22 @@ pub record IsUnput (old new : Content) (key : List ℕ) (older : Option Entry) :
   pub head : KeepsHead old new
   pub unput : HasUnput old.entries new.entries key older
 
--- A leaf after a put for which it had no room: two leaves, cut where the larger one is the least.
+-- A leaf after a put that makes two leaves of it, cut where the larger one is the least.
 pub record IsPutHalved (old : Content) (e : Entry) (fresh : Logical) (left right : Content) : Type 0 where
   pub leaf : old.level ≡ 0
   pub sides : AreSides old fresh left right
   pub put : HasPutHalved old.entries left.entries right.entries right.low e
   pub cut : IsCut old fresh (put_entry e old.entries) (length left.entries)
+  -- the right leaf begins with its first key
+  pub fence : right.low ≡ cut_at (put_entry e old.entries) (length left.entries)
 
 -- An inner page with one child more.
 pub record IsPosted (old new : Content) (key : List ℕ) (child : Logical) : Type 0 where
   pub inner : 0 < old.level
   pub is : new ≡ with_entry old (child_of key child)
 
--- An inner page with one child more, for which it had no room: two inner pages of its level with two children each at least,
--- which have all children in their order.
+-- An inner page with one child more that becomes two inner pages of its level, with two children each at least, which have all
+-- children in their order.
 pub record IsHalvedInner (old : Content) (key : List ℕ) (child fresh : Logical) (left right : Content) : Type 0 where
   pub inner : 0 < old.level
   pub sides : AreSides old fresh left right
@@ -51,8 +53,8 @@ pub record IsHalvedInner (old : Content) (key : List ℕ) (child fresh : Logical
   pub two : (2 ≤ length left.entries) × (2 ≤ length right.entries)
   pub cut : IsCut old fresh (put_entry (child_of key child) old.entries) (length left.entries)
 
--- The top with one child more, for which it had no room: its children are those of two new pages of its level, and it is one
--- level higher, and names these two. It keeps its number, its link and its fences.
+-- The top with one child more that goes one level up: its children are those of two new pages of its old level, and it names
+-- these two. It keeps its number, its link and its fences.
 pub record IsGrown (old : Content) (key : List ℕ) (child first second : Logical) (left right top : Content) : Type 0 where
   pub halved : IsHalvedInner (record old { own = first }) key child second left right
   pub is : top ≡ record old { level = suc old.level; entries = child_of old.low first ∷ child_of right.low second ∷ [] }
