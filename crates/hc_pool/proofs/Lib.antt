@@ -1,2 +1,3 @@
 pub mod Finds
 pub mod Registered
+pub mod Turns

@@ -1,10 +1,11 @@
 -- Claiming: what a claim adds to what a seat knows.
-use Rattle.std.specs.Prelude.{◌≡◌, ◌≢◌, ℕ, List, length, ◌++◌, Bool, true, false}
+use Rattle.std.specs.Prelude.{◌≡◌, ◌≢◌, ◌⊎◌, ℕ, zero, suc, ◌+◌, ◌-◌, ◌<◌, cond, leb, List, [], ◌∷◌, length, ◌++◌, Bool, true, false}
 use Rattle.hc_base.specs.Lookup.{Among}
 use Rattle.hc_rows.specs.declared.layout.Layout.{Layout}
 use Rattle.hc_rows.specs.Places.{page_at}
 use Rattle.hc_rule.specs.declared.view.View.{View}
 use Rattle.hc_rule.specs.declared.view.Found.{Found}
+use Rattle.hc_rule.specs.Kinds.LoadPage.{with_found}
 use Rattle.hc_rule.specs.Kinds.TakePage.{with_page, IsElsewhere}
 
 -- the view with more words found
@@ -25,7 +26,37 @@ pub record FindsTaken (y : Layout) (pages : ℕ → Type 0) (v w : View) : Type 
 abbrev pub Claims : ℕ → View → View → Type 0
 Claims p v w = IsElsewhere p v × (words : List ℕ) × (length words ≡ 256) × (more : List Found) × (w ≡ with_page p 0 words (with_all_found more v))
 
+-- the page that comes after so many others in turn, from a page on: by their numbers, and after the last one the first
+abbrev pub in_turn : ℕ → ℕ → ℕ → ℕ
+in_turn pages from n = cond (leb (from + n) pages) (from + n) (from + n - pages)
+
+-- a word that was found at this place
+abbrev pub at : ℕ → ℕ → Found
+at place word = record { place = place; word = word }
+
+-- What a claim notes, the newest first, of a page that it finds taken: one load of its word. Where that is the word of a free
+-- page an exchange follows, which finds another one.
+abbrev pub IsLook : ℕ → List Found → Type 0
+IsLook place notes = (n : ℕ) × (n ≢ 0) × ((notes ≡ at place n ∷ []) ⊎ (notes ≡ at place n ∷ at place 0 ∷ []))
+
+-- the notes of so many pages in turn, each of which was looked at once
+abbrev pub AreLooks : Layout → ℕ → ℕ → List Found → Type 0
+AreLooks y from zero notes = notes ≡ []
+AreLooks y from (suc n) notes = (last before : List Found) × (notes ≡ last ++ before) × IsLook (page_at y (in_turn y.pages from n)) last × AreLooks y from n before
+
+-- so many pages were looked at in turn, and nothing else was done
+abbrev pub LooksInTurn : Layout → ℕ → ℕ → View → View → Type 0
+LooksInTurn y from n v w = (notes : List Found) × AreLooks y from n notes × (w ≡ with_all_found notes v)
+
+-- the word of a page was loaded once and found to be that of a free page, and the page was taken
+abbrev pub TakesFree : Layout → ℕ → View → View → Type 0
+TakesFree y p v w = IsElsewhere p v × (words : List ℕ) × (length words ≡ 256) × (w ≡ with_page p 0 words (with_found (page_at y p) 0 v))
+
+-- the page was taken after those that come before it in turn
+abbrev pub TakesInTurn : Layout → ℕ → ℕ → View → View → Type 0
+TakesInTurn y from p v w = (n : ℕ) × (n < y.pages) × (p ≡ in_turn y.pages from n) × (u : View) × LooksInTurn y from n v u × TakesFree y p u w
+
 -- one page was tried
 abbrev pub Tried : Layout → ℕ → View → Bool → View → Type 0
-Tried y p v true w = Claims p v w
-Tried y p v false w = FindsTaken y (λ q. q ≡ p) v w
+Tried y p v true w = TakesFree y p v w
+Tried y p v false w = (notes : List Found) × IsLook (page_at y p) notes × (w ≡ with_all_found notes v)

@@ -1,2 +1,3 @@
 pub mod Claiming
+pub mod Laws
 pub mod Registering

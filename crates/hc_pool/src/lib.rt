@@ -2,6 +2,7 @@
 #![tactic(auto)]
 
 mod claims;
+pub mod laws;
 mod seats;
 
 pub use claims::{claim, give_back};

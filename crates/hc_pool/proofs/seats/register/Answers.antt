@@ -1,11 +1,10 @@
 -- The seat is starting, a transaction begins, and its snapshot is stored.
-use Rattle.std.proofs.Common.{◌≡◌, ◌∙◌, refl, sym, ap, subst, ℕ, ◌≤◌}
+use Rattle.std.proofs.Common.{refl, sym, ap, subst, ◌≤◌}
 use Rattle.atomic_table.specs.Table.{Me}
 use Rattle.hc_base.specs.declared.seat_word.SeatWord.TheVariants as seat
 use Rattle.hc_rule.specs.declared.view.View.{View}
 use Rattle.hc_rule.specs.Kinds.StoreSeat.{with_stage}
 use Rattle.hc_tidlog.specs.Looking.{MayBegin, Began}
-use Rattle.hc_pool.specs.Registering.{Registers}
 use Rattle.hc_pool.proofs.Registered.{may_read, not_below}
 use Rattle.hc_pool.proofs.seats.register.Goals as goal
 
