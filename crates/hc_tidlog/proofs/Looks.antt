@@ -1,5 +1,5 @@
 -- One look after another.
-use Rattle.std.proofs.Common.{◌≡◌, ◌∙◌, refl, sym, ap, subst, inl, inr, ℕ, ◌≤◌, List, [], ◌∷◌, ◌++◌, append_assoc, ltb, Bool, true, false, arith}
+use Rattle.std.proofs.Common.{◌≡◌, ◌∙◌, refl, sym, ap, subst, inl, inr, ℕ, ◌≤◌, [], ◌∷◌, ◌++◌, append_assoc, Bool, true, false, arith}
 use Rattle.std.proofs.lemmas.Bool.{cases_lt, lt-ltb, le-ltb}
 use Rattle.hc_base.specs.declared.numbers.Cid.{Cid}
 use Rattle.hc_rule.specs.declared.view.View.{View}

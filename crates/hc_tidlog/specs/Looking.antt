@@ -4,7 +4,7 @@ use Rattle.hc_base.specs.declared.numbers.Cid.{Cid}
 use Rattle.hc_rule.specs.declared.view.View.{View}
 use Rattle.hc_rule.specs.declared.view.SeenPlace.{SeenPlace}
 use Rattle.hc_base.specs.declared.seat_word.SeatWord.TheVariants as seat
-use Rattle.hc_core.specs.Account.{Txn, IsIdle, WhenOpen}
+use Rattle.hc_core.specs.Account.{IsIdle, WhenOpen}
 use Rattle.hc_rule.specs.Kinds.LoadLog.{own_txns, Begins, Proposes, at_end}
 
 -- the view with more of the log seen, and more places found taken

@@ -95,6 +95,7 @@ fn try_begin(grip: &mut Grip<'_>) -> Option<Cid>
 fn try_propose(grip: &mut Grip<'_>) -> Option<Cid>
     requires may { Asks Proposes (grip.old.seat.me.0.seen.0 + 1) grip.old.seat.me.0 }
     ensures proposed { IfSome result (λ c. (c.0 ≡ grip.old.seat.me.0.seen.0 + 1) × (grip.new.seat.me ≡ bare (at_end Proposes grip.old.conn grip.old.seat.me.0))) }
+    ensures place { IfSome result (λ c. HasPlace grip.old.layout c.0) }
     ensures looked { IfNone result (LooksAt (grip.old.seat.me.0.seen.0 + 1) grip.old.seat.me.0 true grip.new.seat.me.0) }
     ensures same { IsSame grip.old grip.new }
 {
@@ -110,6 +111,7 @@ fn try_propose(grip: &mut Grip<'_>) -> Option<Cid>
 pub fn propose(grip: &mut Grip<'_>) -> Cid
     requires may { MayPropose grip.old.seat.me.0 }
     ensures proposed { Proposed grip.old.conn grip.old.seat.me.0 result grip.new.seat.me.0 }
+    ensures place { HasPlace grip.old.layout result.0 }
     ensures same { IsSame grip.old grip.new }
 {
     find_end(grip);

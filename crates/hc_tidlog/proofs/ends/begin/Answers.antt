@@ -1,5 +1,5 @@
 -- One look after another, up to the one that finds the end.
-use Rattle.std.proofs.Common.{◌≡◌, ◌∙◌, ap}
+use Rattle.std.proofs.Common.{◌∙◌, ap}
 use Rattle.atomic_table.specs.Table.{Me}
 use Rattle.hc_rule.specs.declared.view.View.{View}
 use Rattle.hc_rule.specs.Kinds.LoadLog.{Begins, at_end}

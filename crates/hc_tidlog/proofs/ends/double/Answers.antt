@@ -1,10 +1,6 @@
 -- One look after another.
-use Rattle.std.proofs.Common.{◌≡◌, ◌+◌, ℕ, sym, ap, subst, arith}
-use Rattle.atomic_table.specs.Table.{Me}
-use Rattle.hc_base.specs.declared.numbers.Cid.{Cid}
-use Rattle.hc_rule.specs.declared.view.View.{View}
-use Rattle.hc_tidlog.specs.Looking.{Looked, LooksAt}
-use Rattle.hc_tidlog.proofs.Looks.{looked_none, looked_up, looked_both, looked_either, same_after}
+use Rattle.std.proofs.Common.{arith}
+use Rattle.hc_tidlog.proofs.Looks.{looked_both, looked_either, same_after}
 use Rattle.hc_tidlog.proofs.ends.double.Goals as goal
 
 pub returns-then-not-is_taken-clause-looked : goal.returns-then-not-is_taken-clause-looked

@@ -1,10 +1,7 @@
 -- One look after another.
-use Rattle.std.proofs.Common.{◌≡◌, ◌+◌, ℕ, sym, ap, subst, arith}
-use Rattle.atomic_table.specs.Table.{Me}
+use Rattle.std.proofs.Common.{ap, arith}
 use Rattle.hc_base.specs.declared.numbers.Cid.{Cid}
-use Rattle.hc_rule.specs.declared.view.View.{View}
-use Rattle.hc_tidlog.specs.Looking.{Looked, LooksAt}
-use Rattle.hc_tidlog.proofs.Looks.{looked_none, looked_up, looked_both, looked_either, same_after}
+use Rattle.hc_tidlog.proofs.Looks.{looked_both, looked_either, same_after}
 use Rattle.hc_tidlog.proofs.ends.halve.Goals as goal
 
 pub halves-preserved-then-not-is_taken : goal.halves-preserved-then-not-is_taken

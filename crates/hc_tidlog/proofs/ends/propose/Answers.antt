@@ -1,7 +1,8 @@
 -- One look after another, up to the one that finds the end.
-use Rattle.std.proofs.Common.{◌≡◌, ◌∙◌, ap}
+use Rattle.std.proofs.Common.{◌∙◌, ap, subst}
 use Rattle.atomic_table.specs.Table.{Me}
 use Rattle.hc_rule.specs.declared.view.View.{View}
+use Rattle.hc_rows.specs.Places.{HasPlace}
 use Rattle.hc_rule.specs.Kinds.LoadLog.{Proposes, at_end}
 use Rattle.hc_tidlog.proofs.Looks.{looked_both, same_after}
 use Rattle.hc_tidlog.proofs.ends.propose.Goals as goal
@@ -20,3 +21,6 @@ looks-preserved c = record {
   looked = looked_both c.find_end.new.grip.seat.me.0 c.looks.grip.seat.me.0 c.try_propose.new.grip.seat.me.0 c.looks.invariant.looked c.in_default.ensures.looked.0;
   same = same_after c.find_end.new.grip c.looks.grip c.try_propose.new.grip c.looks.invariant.same c.try_propose.ensures.same;
 }
+
+pub returns-in-Some-clause-place : goal.returns-in-Some-clause-place
+returns-in-Some-clause-place c = subst (λ y. HasPlace y c.in-Some.c.0) (c.looks.invariant.same.0.0 ∙ c.find_end.ensures.same.0.0) c.in-Some.ensures.place

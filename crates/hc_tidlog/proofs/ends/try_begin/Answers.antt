@@ -1,10 +1,10 @@
 -- What was found is noted where it is taken.
-use Rattle.std.proofs.Common.{◌≡◌, ◌+◌, ℕ, true, sym, ap, subst, arith}
+use Rattle.std.proofs.Common.{◌+◌, true, ap, subst}
 use Rattle.atomic_table.specs.Table.{Me}
 use Rattle.hc_base.specs.declared.numbers.Cid.{Cid}
 use Rattle.hc_rule.specs.declared.view.View.{View}
-use Rattle.hc_tidlog.specs.Looking.{Looked, LooksAt}
-use Rattle.hc_tidlog.proofs.Looks.{looked_none, looked_up, looked_both, looked_either, same_after}
+use Rattle.hc_tidlog.specs.Looking.{LooksAt}
+use Rattle.hc_tidlog.proofs.Looks.{looked_up}
 use Rattle.hc_tidlog.proofs.ends.try_begin.Goals as goal
 
 pub returns-in-Some-clause-looked : goal.returns-in-Some-clause-looked
