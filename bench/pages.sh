@@ -1,5 +1,5 @@
 #!/usr/bin/env bash
-# Times look-ups in a leaf and puts into it, and steps on a region, by the program hc_page_bench: a line for each part,
+# Times look-ups in a leaf, puts into it, plans, and steps on a region, by the program hc_page_bench: a line for each part,
 # as a ratio. The program is proved and built first where a source has changed.
 cd "$(dirname "$0")/../crates/hc_page_bench" || exit 1
 

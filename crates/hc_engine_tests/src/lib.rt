@@ -4,6 +4,7 @@
 mod by_hand;
 mod hand_pages;
 mod leaves;
+mod plans;
 mod pool;
 mod room;
 mod seats;

@@ -6,11 +6,11 @@ use hc_pool::{claim, give_back};
 use hc_steps::Grip;
 
 // Claims a page, and then another one; where there is none, the first goes back.
-fn claim_twice(grip: &mut Grip<'_>) -> Result<(Phys, Result<Phys, Full>), Full>
+fn claim_twice(grip: &mut Grip<'_>, floor: Cid) -> Result<(Phys, Result<Phys, Full>), Full>
     ensures { grip.new.layout ≡ grip.old.layout }
 {
-    let p = claim(grip, Cid(7))?;
-    match claim(grip, Cid(0)) {
+    let p = claim(grip, floor)?;
+    match claim(grip, floor) {
         Ok(other) => Ok((p, Ok(other))),
         Err(full) => {
             give_back(grip, p);
@@ -63,7 +63,11 @@ mod tests {
         }
     }
 
-    // Of four pages two are mapped from the start.
+    fn owned(seat: u8) -> PageWord {
+        PageWord::Owned { seat, next: 0 }
+    }
+
+    // Of four pages two are mapped from the start. The seat owns after `Full` what it owned.
     #[test]
     fn two_pages_of_four_are_claimed(rt: HostRuntime) -> Result<(), Fail> {
         let layout = Layout {
@@ -75,9 +79,20 @@ mod tests {
         let (region, mut dealer) = Region::make(rt.alloc(), layout)?;
         let mut grip = region.deal(&mut dealer);
         assert_eq!(rt; claim(&mut grip, Cid(0)), Ok(Phys(3)));
-        assert_eq!(rt; claim_twice(&mut grip), Ok((Phys(4), Err(full(4, 0)))));
+        assert_eq!(rt;
+            claim_twice(&mut grip, Cid(0)),
+            Ok((Phys(4), Err(full(4, 0))))
+        );
+        assert_eq!(rt; grip.load_page(Phys(3)), owned(0));
+        assert_eq!(rt; grip.load_page(Phys(4)), PageWord::Free);
+        assert_eq!(rt;
+            claim_twice(&mut grip, Cid(7)),
+            Ok((Phys(4), Err(full(4, 7))))
+        );
         assert_eq!(rt; claim(&mut grip, Cid(0)), Ok(Phys(4)));
         assert_eq!(rt; claim(&mut grip, Cid(9)), Err(full(4, 9)));
+        assert_eq!(rt; grip.load_page(Phys(3)), owned(0));
+        assert_eq!(rt; grip.load_page(Phys(4)), owned(0));
         Ok(())
     }
 
@@ -92,14 +107,18 @@ mod tests {
         let (region, mut dealer) = Region::make(rt.alloc(), layout)?;
         let mut grip = region.deal(&mut dealer);
         assert_eq!(rt; claim(&mut grip, Cid(0)), Err(full(2, 0)));
+        assert_eq!(rt; grip.load_page(Phys(1)), PageWord::Mapped(Logical(1)));
+        assert_eq!(rt; grip.load_page(Phys(2)), PageWord::Mapped(Logical(2)));
+        assert_eq!(rt; grip.hint(), Phys(1));
         Ok(())
     }
 
-    // The second connection begins in the middle, and goes round.
+    // The second connection begins in the middle. The first one begins at the last page but one, and the first free page
+    // in turn from there is below it.
     #[test]
     fn a_claim_goes_round(rt: HostRuntime) -> Result<(), Fail> {
         let layout = Layout {
-            pages: 6,
+            pages: 8,
             numbers: 2,
             transactions: 1,
             seats: 2,
@@ -107,11 +126,64 @@ mod tests {
         let (region, mut dealer) = Region::make(rt.alloc(), layout)?;
         let mut one = region.deal(&mut dealer);
         let mut two = region.deal(&mut dealer);
-        assert_eq!(rt; claim(&mut two, Cid(0)), Ok(Phys(4)));
+        assert_eq!(rt; claim_twice(&mut two, Cid(0)), Ok((Phys(5), Ok(Phys(6)))));
+        assert_eq!(rt; claim_twice(&mut two, Cid(0)), Ok((Phys(7), Ok(Phys(8)))));
+        one.begin_at(Phys(7));
         assert_eq!(rt; claim(&mut one, Cid(0)), Ok(Phys(3)));
-        assert_eq!(rt; claim_twice(&mut two), Ok((Phys(5), Ok(Phys(6)))));
-        assert_eq!(rt; claim(&mut two, Cid(0)), Err(full(6, 0)));
-        assert_eq!(rt; claim(&mut one, Cid(0)), Err(full(6, 0)));
+        assert_eq!(rt; two.hint(), Phys(8));
+        assert_eq!(rt; claim(&mut two, Cid(0)), Ok(Phys(4)));
+        assert_eq!(rt; claim(&mut two, Cid(0)), Err(full(8, 0)));
+        assert_eq!(rt; claim(&mut one, Cid(0)), Err(full(8, 0)));
+        assert_eq!(rt; one.hint(), Phys(3));
+        Ok(())
+    }
+
+    // By hand: of five connections each begins a fifth of the pages further, 13.
+    #[test]
+    fn connections_begin_evenly_spread(rt: HostRuntime) -> Result<(), Fail> {
+        let layout = Layout {
+            pages: 66,
+            numbers: 2,
+            transactions: 1,
+            seats: 5,
+        };
+        let (region, mut dealer) = Region::make(rt.alloc(), layout)?;
+        let one = region.deal(&mut dealer);
+        let two = region.deal(&mut dealer);
+        let three = region.deal(&mut dealer);
+        let four = region.deal(&mut dealer);
+        let five = region.deal(&mut dealer);
+        let hints = [
+            one.hint().0,
+            two.hint().0,
+            three.hint().0,
+            four.hint().0,
+            five.hint().0,
+        ];
+        assert_eq!(rt; hints, [1, 14, 27, 40, 53]);
+        Ok(())
+    }
+
+    // Where an allocation fails (`rt try --test --fail-alloc N`) that region is not made, and the others are.
+    #[test]
+    fn a_region_is_made_after_one_that_was_not(rt: HostRuntime) -> Result<(), Fail> {
+        let layout = Layout {
+            pages: 4,
+            numbers: 2,
+            transactions: 1,
+            seats: 1,
+        };
+        let mut failed = 0u32;
+        for _ in 0..8u32 {
+            match Region::make(rt.alloc(), layout) {
+                Ok((region, mut dealer)) => {
+                    let mut grip = region.deal(&mut dealer);
+                    assert_eq!(rt; claim(&mut grip, Cid(0)), Ok(Phys(3)));
+                }
+                Err(_) => failed = failed.saturating_add(1),
+            }
+        }
+        assert!(rt; failed < 2);
         Ok(())
     }
 

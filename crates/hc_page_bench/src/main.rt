@@ -1,17 +1,21 @@
-//! Times look-ups in a leaf and puts into it, and steps on a region, as ratios to the copy of an array of 2,048 bytes, to a
+//! Times look-ups in a leaf, puts into it, plans, and steps on a region, as ratios to the copy of an array of 2,048 bytes, to a
 //! compare-and-exchange, and to a vector of zeros. Checksums go to standard output, ratios to standard error.
 #![tactic(auto)]
 
 mod claims;
 mod leaf;
+mod plans;
 mod region;
 mod rounds;
 mod timed;
+mod txns;
 
 use crate::leaf::{full_leaf, key};
+use crate::plans::time_plans;
 use crate::region::{time_making, time_rows, time_steps};
 use crate::rounds::{copies, looked_up, puts};
 use crate::timed::{Timed, report};
+use crate::txns::time_txns;
 use std::io;
 use std::time::Instant;
 
@@ -21,8 +25,10 @@ const ROUNDS: u32 = 5_000;
 
 fn main(rt: HostRuntime) -> io::Result<()> {
     time_leaf(&rt)?;
+    time_plans(&rt)?;
     time_rows(&rt)?;
     time_steps(&rt, &rt)?;
+    time_txns(&rt, &rt)?;
     time_making(&rt)
 }
 

@@ -11,15 +11,16 @@ use std::io;
 use std::thread::{self, Threads};
 use std::time::Instant;
 
-const TURNS: u32 = 20;
-
 // Rows are read and written in many short turns, so that some turn is not interrupted.
 const ROW_TURNS: u32 = 200;
 
 const ROWS: u32 = 500;
 
-// How many claims a turn makes: so many that the start of a thread counts little.
+// How many claims a turn makes: so many that the start of a thread counts little. And how many turns there are: in some
+// of them no thread is interrupted.
 const CLAIMS: u32 = 100_000;
+
+const CLAIM_TURNS: u32 = 100;
 
 const MAKINGS: u32 = 3;
 
@@ -28,6 +29,18 @@ fn small() -> Layout
 {
     Layout {
         pages: 66,
+        numbers: 2,
+        transactions: 1,
+        seats: 5,
+    }
+}
+
+// Five connections begin to claim 205 pages apart, so that the words of their pages lie 1,640 bytes apart.
+fn wide() -> Layout
+    ensures { (result.pages ≡ 1025) × (result.numbers ≡ 2) × (result.transactions ≡ 1) × (result.seats ≡ 5) }
+{
+    Layout {
+        pages: 1_025,
         numbers: 2,
         transactions: 1,
         seats: 5,
@@ -98,28 +111,30 @@ pub fn time_rows(rt: &HostRuntime) -> io::Result<()> {
     )
 }
 
-// A connection's grip, and a checksum of what it claimed. A claim writes into its grip, so workers lie 128 bytes apart: else
-// the grips of two threads share a line of the processors' caches.
+// A connection's grip, and a checksum of what it claimed. 256 bytes lie between what two workers write, so that they share no
+// line of the processors' caches; that this is what makes four threads slower than one was not shown.
 #[derive(Drop)]
 struct Worker<'a> {
+    before: [u64; 16],
     grip: Grip<'a>,
     sum: u64,
-    apart: [u64; 16],
+    after: [u64; 16],
 }
 
 impl<'a> Worker<'a> {
     fn new(grip: Grip<'a>) -> Worker<'a> {
         Worker {
+            before: [0; 16],
             grip,
             sum: 0,
-            apart: [0; 16],
+            after: [0; 16],
         }
     }
 }
 
 /// Claims of one page that is given back, in one thread and in four, as ratios to a compare-and-exchange.
 pub fn time_steps<T: Threads + Sync>(rt: &HostRuntime, threads: &T) -> io::Result<()> {
-    let (region, mut dealer) = Region::make(rt.alloc(), small())?;
+    let (region, mut dealer) = Region::make(rt.alloc(), wide())?;
     let mut grip = region.deal(&mut dealer);
     let mut workers = [
         Worker::new(region.deal(&mut dealer)),
@@ -130,7 +145,7 @@ pub fn time_steps<T: Threads + Sync>(rt: &HostRuntime, threads: &T) -> io::Resul
     let mut exchange = Timed::new();
     let mut alone = Timed::new();
     let mut together = Timed::new();
-    for _ in 0..TURNS {
+    for _ in 0..CLAIM_TURNS {
         let start = Instant::now(rt)?;
         let sum = exchanges(CLAIMS);
         exchange = exchange.with(sum, start.elapsed(rt)?);

@@ -1,0 +1,6 @@
+-- the leaf stays one of small entries
+use Rattle.hc_test_pages.specs.SmallPages.{HasSmallLeaf}
+use Rattle.hc_engine_tests.proofs.plans.halved_between.Given as goal
+
+abbrev pub invariant-loop-number : goal.invariant-loop-number
+invariant-loop-number l = HasSmallLeaf l.page.words

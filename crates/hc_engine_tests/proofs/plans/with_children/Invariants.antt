@@ -1,0 +1,6 @@
+-- the page stays an inner one
+use Rattle.hc_test_pages.specs.SmallPages.{HasInner}
+use Rattle.hc_engine_tests.proofs.plans.with_children.Given as goal
+
+abbrev pub invariant-loop-number : goal.invariant-loop-number
+invariant-loop-number l = HasInner l.page.words
