@@ -1,0 +1,16 @@
+pub mod Work
+pub mod Stored
+pub mod Looks
+pub mod Select
+pub mod Grouping
+pub mod Sorting
+pub mod Results
+pub mod Tests
+pub mod Insert
+pub mod Update
+pub mod Definitions
+pub mod Catalog
+pub mod Statements
+pub mod Laws
+pub mod ResultLaws
+pub mod PathLaws
