@@ -146,6 +146,13 @@ impl<'a> Shown<'a> {
         self.conn
     }
 
+    /// How many transactions its connection had before it. Its ordinal is one more.
+    pub fn before(&self) -> usize
+        ensures { self.now.ordinal ≡ result + 1 }
+    {
+        self.before
+    }
+
     /// The ending that its reply printed.
     pub fn ending(&self) -> Ending
         ensures { result ≡ self.now.ending }

@@ -50,7 +50,7 @@ fn script(alloc: Global, conn: u32, letters: &[u8]) -> Result<Script, NoMemory> 
     Ok(Script::new(conn, commands))
 }
 
-fn scripts(alloc: Global, all: &[(u32, &[u8])]) -> Result<Vec<Script>, NoMemory> {
+pub fn scripts(alloc: Global, all: &[(u32, &[u8])]) -> Result<Vec<Script>, NoMemory> {
     let mut scripts = Vec::new(alloc);
     for one in all {
         scripts.push(script(alloc, one.0, one.1)?)?;

@@ -5,3 +5,5 @@
 mod front;
 #[cfg(test)]
 mod laws;
+#[cfg(test)]
+mod numbers;

@@ -1,0 +1,4 @@
+mod Histories
+mod Names
+mod OneMore
+mod Setups
