@@ -1,7 +1,7 @@
-mod Bytes
-mod Contents
-mod Lengths
-mod Order
-mod Parts
-mod Prefix
-mod Whole
+pub mod Bytes
+pub mod Contents
+pub mod Lengths
+pub mod Order
+pub mod Parts
+pub mod Prefix
+pub mod Whole

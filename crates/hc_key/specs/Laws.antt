@@ -28,3 +28,7 @@ abbrev pub HoldsPrefixed : Range → ℕ → List Value → Type 0
 HoldsPrefixed range tree values =
     (other : ℕ) (list : List Value) → other < 2 ^ 32 → AreValues list
     → InRange range (key_bytes other list) ↔ ((other ≡ tree) × BeginsWith list values)
+
+-- and so does the range of each list of values, of each tree
+abbrev pub RangesHoldTheirKeys : Type 0
+RangesHoldTheirKeys = (tree : ℕ) (values : List Value) → tree < 2 ^ 32 → AreValues values → HoldsPrefixed (range_of tree values) tree values

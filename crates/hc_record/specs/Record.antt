@@ -1,4 +1,4 @@
--- The bytes of a record: section 2.1, "Record Format", of https://www.sqlite.org/fileformat2.html.
+-- The bytes of a record: "Record Format" of https://www.sqlite.org/fileformat2.html.
 use Rattle.std.specs.Prelude.{ℕ, ◌+◌, ◌-◌, ◌*◌, ◌/◌, ◌^◌, ◌==◌, ℤ, pos, negsuc, List, [], ◌++◌, length, flat_map, nat_lt, if◌then◌else◌}
 use Rattle.std.specs.Int.{w64, cast_unsigned, bytes_high_first}
 use Rattle.hc_value.specs.declared.value.Value.{Value}

@@ -1,4 +1,4 @@
--- Numbers below 2 ^ 64 in one to nine bytes: the varint of section 1.6, "B-tree Pages", of
+-- Numbers below 2 ^ 64 in one to nine bytes: the varint of "B-tree Pages" of
 -- https://www.sqlite.org/fileformat2.html, in its shortest form.
 use Rattle.std.specs.Prelude.{ℕ, zero, suc, ◌+◌, ◌-◌, ◌*◌, ◌/◌, ◌%◌, ◌^◌, List, [], ◌∷◌, ◌++◌, Option, Some, None, nat_lt, if◌then◌else◌}
 

@@ -162,6 +162,14 @@ row_place f row among =
     inr (among_back e (column_entries f.table.name 1 f.table.columns ++ map (index_entry f.table.name) f.table.indexes) (name_entries f.table ++ rows)
     (among_back e (name_entries f.table) rows (among_flat (λ (r : Row). row_entries f.table r.rowid r.values) e row f.rows among (inl refl))))
 
+pub row_index_place : (f : Filled) (row : Row) (index : Index) → Among row f.rows → Among index f.table.indexes → Among (row_index_entry row.rowid row.values index) (filled_entries f)
+row_index_place f row index among listed =
+    let e = row_index_entry row.rowid row.values index in
+    let rows = flat_map (λ (r : Row). row_entries f.table r.rowid r.values) f.rows in
+    inr (among_back e (column_entries f.table.name 1 f.table.columns ++ map (index_entry f.table.name) f.table.indexes) (name_entries f.table ++ rows)
+    (among_back e (name_entries f.table) rows (among_flat (λ (r : Row). row_entries f.table r.rowid r.values) e row f.rows among
+    (inr (among_map (row_index_entry row.rowid row.values) index f.table.indexes listed)))))
+
 -- ---- the kind at each place
 
 column_number : (name : List ℕ) (k : ℕ) (columns : List Column) (e : Entry) → Among e (column_entries name k columns) → (kind_of e ≡ 1) × (first_of e.key ≡ key_name name)
@@ -258,3 +266,22 @@ row_here f is e among kind = by_place (place_of f e among)
     by_place (of_name index here same) = absurd (omega (arith, kind, kind_is f is e (of_name index here same)))
     by_place (of_row row here same) = record { row = row; among = here; is = same }
     by_place (of_row_index row index here there same) = absurd (omega (arith, kind, kind_is f is e (of_row_index row index here there same)))
+
+pub record RowIndexHere (f : Filled) (e : Entry) : Type 0 where
+  pub row : Row
+  pub index : Index
+  pub among : Among row f.rows
+  pub listed : Among index f.table.indexes
+  pub is : e ≡ row_index_entry row.rowid row.values index
+
+pub row_index_here : (f : Filled) → IsPlaced f → (e : Entry) → Among e (filled_entries f) → kind_of e ≡ 5 → RowIndexHere f e
+unfolding kind_at
+row_index_here f is e among kind = by_place (place_of f e among)
+  where
+    by_place : Place f e → RowIndexHere f e
+    by_place (of_table same) = absurd (omega (arith, kind, kind_is f is e (of_table same)))
+    by_place (of_column here) = absurd (omega (arith, kind, kind_is f is e (of_column here)))
+    by_place (of_index index here same) = absurd (omega (arith, kind, kind_is f is e (of_index index here same)))
+    by_place (of_name index here same) = absurd (omega (arith, kind, kind_is f is e (of_name index here same)))
+    by_place (of_row row here same) = absurd (omega (arith, kind, kind_is f is e (of_row row here same)))
+    by_place (of_row_index row index here there same) = record { row = row; index = index; among = here; listed = there; is = same }

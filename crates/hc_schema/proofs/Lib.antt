@@ -1,17 +1,17 @@
-mod Bindings
-mod CatalogKeys
-mod EntryKinds
-mod GoodEntries
-mod Lowered
-mod NameLists
-mod OneRecord
-mod Orders
-mod Pairs
-mod Recovered
-mod RowCells
-mod SameDatabases
-mod SamePlaces
-mod Shortness
-mod Singles
-mod TableCells
-mod TreeNumbers
+pub mod Bindings
+pub mod CatalogKeys
+pub mod EntryKinds
+pub mod GoodEntries
+pub mod Lowered
+pub mod NameLists
+pub mod OneRecord
+pub mod Orders
+pub mod Pairs
+pub mod Recovered
+pub mod RowCells
+pub mod SameDatabases
+pub mod SamePlaces
+pub mod Shortness
+pub mod Singles
+pub mod TableCells
+pub mod TreeNumbers

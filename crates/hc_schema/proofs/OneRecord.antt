@@ -64,16 +64,16 @@ back_key e f one = (sym one.0, sym one.1)
 
 -- ---- whose a number or a name is
 
-ordered_apart : {A : Type 0} (R : A → A → Type 0) (xs ys : List A) (x y : A) → Ordered R (xs ++ ys) → Among x xs → Among y ys → R x y
+pub ordered_apart : {A : Type 0} (R : A → A → Type 0) (xs ys : List A) (x y : A) → Ordered R (xs ++ ys) → Among x xs → Among y ys → R x y
 ordered_apart R [] ys x y order a b = absurd a
 ordered_apart R (z ∷ xs) ys x y order (inl same) b = subst (λ w. R w y) (sym same) (all_among (R z) y ys (all_back (R z) xs ys order.0) b)
 ordered_apart R (z ∷ xs) ys x y order (inr a) b = ordered_apart R xs ys x y order.1 a b
 
-ordered_back : {A : Type 0} (R : A → A → Type 0) (xs ys : List A) → Ordered R (xs ++ ys) → Ordered R ys
+pub ordered_back : {A : Type 0} (R : A → A → Type 0) (xs ys : List A) → Ordered R (xs ++ ys) → Ordered R ys
 ordered_back R [] ys order = order
 ordered_back R (x ∷ xs) ys order = ordered_back R xs ys order.1
 
-owner : {B : Type 0} (E : B → B → Type 0) (parts : Filled → List B) (db : Database) (f g : Filled) (x y : B) → Ordered (λ a b. E a b → ⊥) (flat_map parts db) → Among f db → Among g db → Among x (parts f) → Among y (parts g) → E x y → E y x → f ≡ g
+pub owner : {B : Type 0} (E : B → B → Type 0) (parts : Filled → List B) (db : Database) (f g : Filled) (x y : B) → Ordered (λ a b. E a b → ⊥) (flat_map parts db) → Among f db → Among g db → Among x (parts f) → Among y (parts g) → E x y → E y x → f ≡ g
 owner E parts [] f g x y order a b p q same back = absurd a
 owner E parts (h ∷ db) f g x y order (inl a) (inl b) p q same back = a ∙ sym b
 owner E parts (h ∷ db) f g x y order (inl a) (inr b) p q same back =
@@ -86,15 +86,15 @@ owner E parts (h ∷ db) f g x y order (inr a) (inr b) p q same back =
 abbrev pub SameNumber : ℕ → ℕ → Type 0
 SameNumber m n = m ≡ n
 
-distinct_ordered : (ns : List ℕ) → AreDistinct ns → Ordered (λ m n. SameNumber m n → ⊥) ns
+pub distinct_ordered : (ns : List ℕ) → AreDistinct ns → Ordered (λ m n. SameNumber m n → ⊥) ns
 distinct_ordered [] distinct = tt
 distinct_ordered (n ∷ ns) distinct = (distinct.0, distinct_ordered ns distinct.1)
 
-differ_ordered : (names : List (List ℕ)) → NamesDiffer names → Ordered (λ a b. SameName a b → ⊥) names
+pub differ_ordered : (names : List (List ℕ)) → NamesDiffer names → Ordered (λ a b. SameName a b → ⊥) names
 differ_ordered [] differ = tt
 differ_ordered (name ∷ names) differ = (differ.0, differ_ordered names differ.1)
 
-indexes_ordered : (indexes : List Index) → NamesDiffer (index_names indexes) → Ordered (λ (i j : Index). SameName i.name j.name → ⊥) indexes
+pub indexes_ordered : (indexes : List Index) → NamesDiffer (index_names indexes) → Ordered (λ (i j : Index). SameName i.name j.name → ⊥) indexes
 indexes_ordered [] differ = tt
 indexes_ordered (index ∷ indexes) differ = (new_from (λ (i : Index). i.name) index.name indexes differ.0, indexes_ordered indexes differ.1)
 
@@ -107,7 +107,7 @@ last_of [] = Null
 last_of (v ∷ []) = v
 last_of (v ∷ w ∷ values) = last_of (w ∷ values)
 
-last_is : (values : List Value) (v : Value) → last_of (values ++ v ∷ []) ≡ v
+pub last_is : (values : List Value) (v : Value) → last_of (values ++ v ∷ []) ≡ v
 last_is [] v = refl
 last_is (w ∷ []) v = refl
 last_is (w ∷ x ∷ values) v = last_is (x ∷ values) v
@@ -118,12 +118,12 @@ module _ (db : Database) (is : IsDatabase db) where
   filled_of : (f : Filled) → Among f db → IsFilled f
   filled_of f among = all_among IsFilled f db is.filled among
 
-  same_index : (f : Filled) (i j : Index) → Among f db → Among i f.table.indexes → Among j f.table.indexes → i.tree ≡ j.tree → i ≡ j
+  pub same_index : (f : Filled) (i j : Index) → Among f db → Among i f.table.indexes → Among j f.table.indexes → i.tree ≡ j.tree → i ≡ j
   same_index f i j in_db a b same =
       one_element (λ (x y : Index). x.tree < y.tree) i j f.table.indexes (by_number (λ (x : Index). x.tree) f.table.tree f.table.indexes (filled_of f in_db).table.form.trees).1
       (λ less. omega (arith, less, same)) (λ less. omega (arith, less, same)) a b
 
-  same_row : (f : Filled) (r s : Row) → Among f db → Among r f.rows → Among s f.rows → r.rowid ≡ s.rowid → r ≡ s
+  pub same_row : (f : Filled) (r s : Row) → Among f db → Among r f.rows → Among s f.rows → r.rowid ≡ s.rowid → r ≡ s
   same_row f r s in_db a b same =
       one_element (λ (x y : Row). x.rowid <ℤ y.rowid) r s f.rows (rows_ordered f.rows (filled_of f in_db).ascend)
       (λ less. never_less r.rowid s.rowid same less) (λ less. never_less s.rowid r.rowid (sym same) less) a b

@@ -28,27 +28,27 @@ alias_same None (Some k) same = absurd (omega (arith, same))
 alias_same (Some k) None same = absurd (omega (arith, same))
 alias_same (Some k) (Some l) same = let e : k ≡ l = omega (arith, same) in ap Some e
 
-class_same : (a b : Class) → class_number a ≡ class_number b → a ≡ b
+pub class_same : (a b : Class) → class_number a ≡ class_number b → a ≡ b
 class_same class.Int class.Int same = refl
 class_same class.Text class.Text same = refl
 class_same class.Blob class.Blob same = refl
 class_same class.Null class.Null same = refl
 class_same a b same = absurd (omega (arith, same))
 
-flag_same : (a b : Bool) → flag_number a ≡ flag_number b → a ≡ b
+pub flag_same : (a b : Bool) → flag_number a ≡ flag_number b → a ≡ b
 flag_same false false same = refl
 flag_same true true same = refl
 flag_same false true same = absurd (omega (arith, same))
 flag_same true false same = absurd (omega (arith, same))
 
-kind_same : (a b : IndexKind) → kind_number a ≡ kind_number b → a ≡ b
+pub kind_same : (a b : IndexKind) → kind_number a ≡ kind_number b → a ≡ b
 kind_same kind.Plain kind.Plain same = refl
 kind_same kind.Unique kind.Unique same = refl
 kind_same kind.UniqueRule kind.UniqueRule same = refl
 kind_same kind.Primary kind.Primary same = refl
 kind_same a b same = absurd (omega (arith, same))
 
-column_same : (a b : Column) → column_values a ≡ column_values b → a ≡ b
+pub column_same : (a b : Column) → column_values a ≡ column_values b → a ≡ b
 column_same a b same =
     let name : a.name ≡ b.name = ap (λ l. text_of (first_of l)) same in
     let class : a.class ≡ b.class = class_same a.class b.class (ap (λ l. nat_of (second_of l)) same) in
@@ -70,11 +70,11 @@ columns_same name other k (c ∷ a) [] same = absurd (let e : suc (length (colum
 columns_same name other k (c ∷ a) (d ∷ b) same =
     ap (λ x. x ∷ a) (column_same c d (ap first_values same)) ∙ ap (λ l. d ∷ l) (columns_same name other (k + 1) a b (ap rest_after same))
 
-unnumbered : (columns : List ℕ) → map (λ v. nat_of v - 1) (map (λ k. number (k + 1)) columns) ≡ columns
+pub unnumbered : (columns : List ℕ) → map (λ v. nat_of v - 1) (map (λ k. number (k + 1)) columns) ≡ columns
 unnumbered [] = refl
 unnumbered (k ∷ columns) = let e : k + 1 - 1 ≡ k = omega arith in ap (λ n. n ∷ map (λ v. nat_of v - 1) (map (λ k. number (k + 1)) columns)) e ∙ ap (λ l. k ∷ l) (unnumbered columns)
 
-index_same : (name other : List ℕ) (a b : Index) → index_entry name a ≡ index_entry other b → a ≡ b
+pub index_same : (name other : List ℕ) (a b : Index) → index_entry name a ≡ index_entry other b → a ≡ b
 index_same name other a b same =
     let values = ap (λ (e : Entry). e.values) same in
     let is_name : a.name ≡ b.name = ap (λ l. text_of (first_of l)) values in
@@ -88,7 +88,7 @@ restored [] k = refl
 restored (v ∷ values) zero = refl
 restored (v ∷ values) (suc k) = ap (λ l. v ∷ l) (restored values k)
 
-stored_same : (alias : Option ℕ) (a b : Row) → HasRowid alias a → HasRowid alias b → a.rowid ≡ b.rowid → stored_values alias a.values ≡ stored_values alias b.values → a.values ≡ b.values
+pub stored_same : (alias : Option ℕ) (a b : Row) → HasRowid alias a → HasRowid alias b → a.rowid ≡ b.rowid → stored_values alias a.values ≡ stored_values alias b.values → a.values ≡ b.values
 stored_same None a b left right rowid same = same
 stored_same (Some k) a b left right rowid same =
     sym (restored a.values k)
@@ -96,18 +96,18 @@ stored_same (Some k) a b left right rowid same =
     ∙ ap (λ v. set (set b.values k Null) k v) (left ∙ ap Int rowid ∙ sym right)
     ∙ restored b.values k
 
-row_same : (t u : Table) (a b : Row) → t.alias ≡ u.alias → IsRow t a → IsRow u b → row_entry t a.rowid a.values ≡ row_entry u b.rowid b.values → a ≡ b
+pub row_same : (t u : Table) (a b : Row) → t.alias ≡ u.alias → IsRow t a → IsRow u b → row_entry t a.rowid a.values ≡ row_entry u b.rowid b.values → a ≡ b
 row_same t u a b alias left right same =
     let rowid : a.rowid ≡ b.rowid = ap (λ (e : Entry). int_of (first_of e.key)) same in
     let stored : stored_values t.alias a.values ≡ stored_values t.alias b.values = ap (λ (e : Entry). e.values) same ∙ ap (λ o. stored_values o b.values) (sym alias) in
     let values : a.values ≡ b.values = stored_same t.alias a b left.alias (subst (λ o. HasRowid o b) (sym alias) right.alias) rowid stored in
     λ i. record { rowid = rowid i; values = values i }
 
--- ---- from one database to another that has its entries
+-- ---- from one database to another that has its entries, all of them or those of a kind
 
-module _ (a b : Database) (is_a : IsDatabase a) (is_b : IsDatabase b) (covered : (e : Entry) → Among e (entries_of a) → Among e (entries_of b)) where
-  carried : (f : Filled) (e : Entry) → Among f a → Among e (filled_entries f) → Within filled_entries e b
-  carried f e in_a among = from_flat filled_entries e b (covered e (among_flat filled_entries e f a in_a among))
+module _ (a b : Database) (is_a : IsDatabase a) (is_b : IsDatabase b) (P : Entry → Type 0) (covered : (e : Entry) → P e → Among e (entries_of a) → Among e (entries_of b)) where
+  carried : (f : Filled) (e : Entry) → P e → Among f a → Among e (filled_entries f) → Within filled_entries e b
+  carried f e is in_a among = from_flat filled_entries e b (covered e is (among_flat filled_entries e f a in_a among))
 
   filled_of : (f : Filled) → Among f b → IsFilled f
   filled_of f among = all_among IsFilled f b is_b.filled among
@@ -118,9 +118,9 @@ module _ (a b : Database) (is_a : IsDatabase a) (is_b : IsDatabase b) (covered :
     pub among : Among other b
     pub same : table_entry f.table ≡ table_entry other.table
 
-  pub twin : (f : Filled) → Among f a → Twin f
-  twin f in_a =
-      let within = carried f (table_entry f.table) in_a (table_place f) in
+  pub twin : (f : Filled) → P (table_entry f.table) → Among f a → Twin f
+  twin f is in_a =
+      let within = carried f (table_entry f.table) is in_a (table_place f) in
       record {
         other = within.x;
         among = within.among;
@@ -128,29 +128,29 @@ module _ (a b : Database) (is_a : IsDatabase a) (is_b : IsDatabase b) (covered :
       }
 
   module _ (f g : Filled) (in_a : Among f a) (in_b : Among g b) (name : SameName f.table.name g.table.name) (tree : f.table.tree ≡ g.table.tree) (alias : f.table.alias ≡ g.table.alias) where
-    pub columns_over : (e : Entry) → Among e (column_entries f.table.name 1 f.table.columns) → Among e (column_entries g.table.name 1 g.table.columns)
-    columns_over e among =
-        let within = carried f e in_a (column_place f e among) in
+    pub columns_over : (e : Entry) → P e → Among e (column_entries f.table.name 1 f.table.columns) → Among e (column_entries g.table.name 1 g.table.columns)
+    columns_over e is among =
+        let within = carried f e is in_a (column_place f e among) in
         let here = column_here within.x (placed within.x (filled_of within.x within.among)) e within.here (column_kind f e among) in
         let names : SameName within.x.table.name g.table.name =
         sym (column_name within.x.table.name 1 within.x.table.columns e here) ∙ column_name f.table.name 1 f.table.columns e among ∙ name in
         subst (λ (h : Filled). Among e (column_entries h.table.name 1 h.table.columns)) (one_name b within.x g is_b within.among in_b names) here
 
-    pub indexes_over : IsFilled f → (index : Index) → Among index f.table.indexes → Among index g.table.indexes
-    indexes_over is_f index among =
+    pub indexes_over : IsFilled f → (index : Index) → P (index_entry f.table.name index) → Among index f.table.indexes → Among index g.table.indexes
+    indexes_over is_f index is among =
         let e = index_entry f.table.name index in
         let above = (placed f is_f).index_trees index among in
-        let within = carried f e in_a (index_place f index among) in
+        let within = carried f e is in_a (index_place f index among) in
         let here = index_here within.x (placed within.x (filled_of within.x within.among)) e within.here (index_kind f.table.name index above.0 above.1) in
         let names : SameName within.x.table.name g.table.name = sym (ap (λ (d : Entry). text_of (first_of d.key)) here.is) ∙ name in
         let same : index ≡ here.index = index_same f.table.name within.x.table.name index here.index here.is in
         subst (λ (h : Filled). Among index h.table.indexes) (one_name b within.x g is_b within.among in_b names) (subst (λ i. Among i within.x.table.indexes) (sym same) here.among)
 
-    pub rows_over : IsFilled f → (row : Row) → Among row f.rows → Among row g.rows
-    rows_over is_f row among =
+    pub rows_over : IsFilled f → (row : Row) → P (row_entry f.table row.rowid row.values) → Among row f.rows → Among row g.rows
+    rows_over is_f row is among =
         let e = row_entry f.table row.rowid row.values in
         let above = (placed f is_f).tree in
-        let within = carried f e in_a (row_place f row among) in
+        let within = carried f e is in_a (row_place f row among) in
         let is_h = filled_of within.x within.among in
         let here = row_here within.x (placed within.x is_h) e within.here (row_kind f.table row.rowid row.values above.0 above.1) in
         let trees : within.x.table.tree ≡ g.table.tree = sym (ap (λ (d : Entry). d.tree) here.is) ∙ tree in

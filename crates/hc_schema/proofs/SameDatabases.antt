@@ -30,16 +30,16 @@ either_test true x here there P left right among = right among
 either_test false x here there P left right among = left among
 
 -- a cell that is put in is there, and so are the others
-put_new : (x : Cell) (cells : List Cell) → Among x (with_cell x cells)
+pub put_new : (x : Cell) (cells : List Cell) → Among x (with_cell x cells)
 put_new x [] = inl refl
 put_new x (y ∷ cells) = by_test (is_below y.key x.key) x (x ∷ y ∷ cells) (y ∷ with_cell x cells) (inl refl) (inr (put_new x cells))
 
-put_others : (x y : Cell) (cells : List Cell) → Among x cells → Among x (with_cell y cells)
+pub put_others : (x y : Cell) (cells : List Cell) → Among x cells → Among x (with_cell y cells)
 put_others x y [] among = absurd among
 put_others x y (z ∷ cells) (inl same) = by_test (is_below z.key y.key) x (y ∷ z ∷ cells) (z ∷ with_cell y cells) (inr (inl same)) (inl same)
 put_others x y (z ∷ cells) (inr among) = by_test (is_below z.key y.key) x (y ∷ z ∷ cells) (z ∷ with_cell y cells) (inr (inr among)) (inr (put_others x y cells among))
 
-from_put : (x y : Cell) (cells : List Cell) → Among x (with_cell y cells) → (x ≡ y) ⊎ Among x cells
+pub from_put : (x y : Cell) (cells : List Cell) → Among x (with_cell y cells) → (x ≡ y) ⊎ Among x cells
 from_put x y [] (inl same) = inl same
 from_put x y [] (inr among) = absurd among
 from_put x y (z ∷ cells) among =
@@ -48,7 +48,7 @@ from_put x y (z ∷ cells) among =
     among
 
 -- cells in order are those that were
-into_order : (x : Cell) (cells : List Cell) → Among x cells → Among x (by_key cells)
+pub into_order : (x : Cell) (cells : List Cell) → Among x cells → Among x (by_key cells)
 into_order x [] among = absurd among
 into_order x (y ∷ cells) (inl same) = subst (λ z. Among z (with_cell y (by_key cells))) (sym same) (put_new y (by_key cells))
 into_order x (y ∷ cells) (inr among) = put_others x y (by_key cells) (into_order x cells among)
@@ -87,7 +87,7 @@ good db is e among =
     good_at within.x (all_among IsFilled within.x db is.filled within.among) e (place_of within.x e within.here)
 
 -- a database with the same cells has the same entries
-covers : KeysDiffer → NoEncodingBeginsAnother → (a b : Database) → IsDatabase a → IsDatabase b → cells_of a ≡ cells_of b → (e : Entry) → Among e (entries_of a) → Among e (entries_of b)
+pub covers : KeysDiffer → NoEncodingBeginsAnother → (a b : Database) → IsDatabase a → IsDatabase b → cells_of a ≡ cells_of b → (e : Entry) → Among e (entries_of a) → Among e (entries_of b)
 covers keys encodings a b is_a is_b same e among =
     let here : Among (cell_of e) (cells_of a) = into_order (cell_of e) (map cell_of (entries_of a)) (among_map cell_of e (entries_of a) among) in
     let there : Among (cell_of e) (cells_of b) = subst (λ l. Among (cell_of e) l) same here in
@@ -99,9 +99,19 @@ covers keys encodings a b is_a is_b same e among =
 
 -- each table of the one is a table of the other
 module _ (a b : Database) (is_a : IsDatabase a) (is_b : IsDatabase b) (into : (e : Entry) → Among e (entries_of a) → Among e (entries_of b)) (back : (e : Entry) → Among e (entries_of b) → Among e (entries_of a)) where
+  -- of every kind
+  abbrev Any : Entry → Type 0
+  Any e = Unit {0}
+
+  abbrev forth : (e : Entry) → Any e → Among e (entries_of a) → Among e (entries_of b)
+  forth e any among = into e among
+
+  abbrev home : (e : Entry) → Any e → Among e (entries_of b) → Among e (entries_of a)
+  home e any among = back e among
+
   filled_over : (f : Filled) → Among f a → Among f b
   filled_over f in_a =
-      let twin_is = twin a b is_a is_b into f in_a in
+      let twin_is = twin a b is_a is_b Any forth f tt in_a in
       let g = twin_is.other in
       let values = ap (λ (e : Entry). e.values) twin_is.same in
       let is_f = all_among IsFilled f a is_a.filled in_a in
@@ -114,17 +124,17 @@ module _ (a b : Database) (is_a : IsDatabase a) (is_b : IsDatabase b) (into : (e
       columns_same f.table.name g.table.name 1 f.table.columns g.table.columns
       (same_lists IsBefore (column_entries f.table.name 1 f.table.columns) (column_entries g.table.name 1 g.table.columns) (λ x y less more. omega (arith, less, more))
       (columns_ordered f.table.name 1 f.table.columns).1 (columns_ordered g.table.name 1 g.table.columns).1
-      (columns_over a b is_a is_b into f g in_a twin_is.among names tree alias)
-      (columns_over b a is_b is_a back g f twin_is.among in_a (sym names) (sym tree) (sym alias))) in
+      (λ e. columns_over a b is_a is_b Any forth f g in_a twin_is.among names tree alias e tt)
+      (λ e. columns_over b a is_b is_a Any home g f twin_is.among in_a (sym names) (sym tree) (sym alias) e tt)) in
       let indexes : f.table.indexes ≡ g.table.indexes =
       same_lists (λ (x y : Index). x.tree < y.tree) f.table.indexes g.table.indexes (never_both (λ (x : Index). x.tree))
       (by_number (λ (x : Index). x.tree) f.table.tree f.table.indexes is_f.table.form.trees).1 (by_number (λ (x : Index). x.tree) g.table.tree g.table.indexes is_g.table.form.trees).1
-      (indexes_over a b is_a is_b into f g in_a twin_is.among names tree alias is_f)
-      (indexes_over b a is_b is_a back g f twin_is.among in_a (sym names) (sym tree) (sym alias) is_g) in
+      (λ index. indexes_over a b is_a is_b Any forth f g in_a twin_is.among names tree alias is_f index tt)
+      (λ index. indexes_over b a is_b is_a Any home g f twin_is.among in_a (sym names) (sym tree) (sym alias) is_g index tt) in
       let rows : f.rows ≡ g.rows =
       same_lists (λ (x y : Row). x.rowid <ℤ y.rowid) f.rows g.rows (λ x y. never_below x.rowid y.rowid) (rows_ordered f.rows is_f.ascend) (rows_ordered g.rows is_g.ascend)
-      (rows_over a b is_a is_b into f g in_a twin_is.among names tree alias is_f)
-      (rows_over b a is_b is_a back g f twin_is.among in_a (sym names) (sym tree) (sym alias) is_g) in
+      (λ row. rows_over a b is_a is_b Any forth f g in_a twin_is.among names tree alias is_f row tt)
+      (λ row. rows_over b a is_b is_a Any home g f twin_is.among in_a (sym names) (sym tree) (sym alias) is_g row tt) in
       let one : f ≡ g = (λ i. record { table = record { name = name i; tree = tree i; columns = columns i; alias = alias i; indexes = indexes i }; rows = rows i }) in
       subst (λ h. Among h b) (sym one) twin_is.among
 

@@ -18,7 +18,7 @@ use Rattle.hc_schema.proofs.EntryKinds.{nat_of, third_of, above_zero, IsPlaced}
 
 -- ---- lists by a number
 
-all_weaker : {A : Type 0} (P Q : A → Type 0) (xs : List A) → ((x : A) → P x → Q x) → AllByRecursion P xs → AllByRecursion Q xs
+pub all_weaker : {A : Type 0} (P Q : A → Type 0) (xs : List A) → ((x : A) → P x → Q x) → AllByRecursion P xs → AllByRecursion Q xs
 all_weaker P Q [] weaker all = tt
 all_weaker P Q (x ∷ xs) weaker all = (weaker x all.0, all_weaker P Q xs weaker all.1)
 
@@ -47,7 +47,7 @@ columns_ordered name k (column ∷ columns) =
 
 -- ---- rows by their rowids
 
-rows_above : (rowid : ℤ) (rows : List Row) → IsAboveNone rowid rows → AllByRecursion (λ (row : Row). rowid <ℤ row.rowid) rows
+pub rows_above : (rowid : ℤ) (rows : List Row) → IsAboveNone rowid rows → AllByRecursion (λ (row : Row). rowid <ℤ row.rowid) rows
 rows_above rowid [] above = tt
 rows_above rowid (row ∷ rows) above = (above.0, rows_above rowid rows above.1)
 
@@ -80,7 +80,7 @@ differ_back (x ∷ xs) ys differ = differ_back xs ys differ.1
 abbrev pub names_in : Filled → List (List ℕ)
 names_in f = f.table.name ∷ index_names f.table.indexes
 
-names_ordered : (db : Database) → NamesDiffer (names_of db) → Ordered by_name db
+pub names_ordered : (db : Database) → NamesDiffer (names_of db) → Ordered by_name db
 names_ordered [] differ = tt
 names_ordered (f ∷ db) differ = (
   all_from (by_name f) db

@@ -1,5 +1,5 @@
 -- What a table is: the facts that hold of each table of a database. Names are those of SQL, after
--- https://www.sqlite.org/lang_createtable.html and https://www.sqlite.org/fileformat2.html, section 2.6 ("sqlite_autoindex_TABLE_N").
+-- https://www.sqlite.org/lang_createtable.html and https://www.sqlite.org/fileformat2.html, "Representation Of SQL Indices" ("sqlite_autoindex_TABLE_N").
 use Rattle.std.specs.Prelude.{◌≡◌, ◌≢◌, ℕ, ◌+◌, ◌^◌, ◌<◌, ◌≤◌, Bool, true, false, IsTrue, IsFalse, List, [], ◌∷◌, ◌++◌, length, map, take, count_by, slice_get, Option, Some, None, MatchOption, IsUtf8, codes, decimal}
 use Rattle.std.specs.List.{AllByRecursion}
 use Rattle.hc_text.specs.Names.{SameName}

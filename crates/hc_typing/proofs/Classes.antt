@@ -68,16 +68,16 @@ counted_by false fault ts us is = cc
 pub counted_is : (f : Function) (ts us : List Typed) → counted f ts ≡ Ok us → us ≡ ts
 counted_is f ts us is = counted_by (nat_eq (length ts) (wanted f (length ts))) (Arity (length ts) (wanted f (length ts))) ts us is
 
-module _ (scope : Scope) (row : List Value) (row_fits : FitsScope scope row) where
-  abbrev HasClass : Typed → Type 0
+module _ (row : List Value) where
+  abbrev pub HasClass : Typed → Type 0
   HasClass t = IsAlwaysOf t.class (value_of row t.value)
 
-  abbrev AllHaveClass : List Typed → Type 0
+  abbrev pub AllHaveClass : List Typed → Type 0
   AllHaveClass [] = Unit {0}
   AllHaveClass (t ∷ ts) = HasClass t × AllHaveClass ts
 
   -- an outcome by which a value is said
-  by_value : (c : Class) (value : Bound) (o : Outcome) → value_of row value ≡ o → IsAlwaysOf c o → HasClass (typed value c)
+  pub by_value : (c : Class) (value : Bound) (o : Outcome) → value_of row value ≡ o → IsAlwaysOf c o → HasClass (typed value c)
   by_value c value o is has = subst (IsAlwaysOf c) (sym is) has
 
   -- where the class can be one alone, the value is of it
@@ -92,7 +92,16 @@ module _ (scope : Scope) (row : List Value) (row_fits : FitsScope scope row) whe
       let first = first_of of (λ u. made (result_if (fits u.class class.Int) class.Int) (make u.value)) t is in
       integer (fits first.0.class class.Int) (make first.0.value) t first.2 (has first.0.value)
 
-  binary_has : (o : BinaryOp) (l r : Judged Typed) (t : Typed) → binary o l r ≡ Ok t → HasClass t
+  pub not_has : (of : Judged Typed) (t : Typed) → unary bound.Not of ≡ Ok t → HasClass t
+  not_has of t is = unary_has bound.Not of (λ e. subst (IsAlwaysOf class.Int) (sym (tree.not row e)) (then_always class.Int _ (λ v. told_is (negation (truth_of v))) (value_of row e))) t is
+
+  pub minus_has : (of : Judged Typed) (t : Typed) → unary bound.Minus of ≡ Ok t → HasClass t
+  minus_has of t is = unary_has bound.Minus of (λ e. subst (IsAlwaysOf class.Int) (sym (tree.minus row e)) (then_always class.Int negative negative_is (value_of row e))) t is
+
+  pub plus_has : (of : Judged Typed) (t : Typed) → unary bound.Plus of ≡ Ok t → HasClass t
+  plus_has of t is = unary_has bound.Plus of (λ e. subst (IsAlwaysOf class.Int) (sym (tree.plus row e)) (then_always class.Int whole whole_is (value_of row e))) t is
+
+  pub binary_has : (o : BinaryOp) (l r : Judged Typed) (t : Typed) → binary o l r ≡ Ok t → HasClass t
   binary_has o l r t is =
       let left = first_of l (λ a. after r (λ b. made (operator_class o a.class b.class) (bound.Binary o a.value b.value))) t is in
       let right = first_of r (λ b. made (operator_class o left.0.class b.class) (bound.Binary o left.0.value b.value)) t left.2 in
@@ -100,7 +109,7 @@ module _ (scope : Scope) (row : List Value) (row_fits : FitsScope scope row) whe
       (λ c one. by_value c (bound.Binary o left.0.value right.0.value) _ (tree.binary row o left.0.value right.0.value)
       (both_always c (operated o) (operated_is left.0.class right.0.class c o one) (value_of row left.0.value) (value_of row right.0.value)))
 
-  one_of_has : (n : Bool) (l : Judged Typed) (list : List (Judged Typed)) (t : Typed) → one_of n l list ≡ Ok t → HasClass t
+  pub one_of_has : (n : Bool) (l : Judged Typed) (list : List (Judged Typed)) (t : Typed) → one_of n l list ≡ Ok t → HasClass t
   one_of_has n l list t is =
       let left = first_of l (λ a. after (each list) (λ ts. made (classes.compared (one_class a.class ts)) (bound.OneOf n a.value (values_of ts)))) t is in
       let others = first_of (each list) (λ ts. made (classes.compared (one_class left.0.class ts)) (bound.OneOf n left.0.value (values_of ts))) t left.2 in
@@ -112,7 +121,7 @@ module _ (scope : Scope) (row : List Value) (row_fits : FitsScope scope row) whe
       many v None = λ w same. cc
       many v (Some vs) = told_is (negated_if n (is_among v vs))
 
-  like_has : (n : Bool) (l p : Judged Typed) (t : Typed) → like n l p ≡ Ok t → HasClass t
+  pub like_has : (n : Bool) (l p : Judged Typed) (t : Typed) → like n l p ≡ Ok t → HasClass t
   like_has n l p t is =
       let left = first_of l (λ a. after p (λ b. made (classes.of_both class.Text a.class b.class class.Int) (bound.Like n a.value b.value))) t is in
       let right = first_of p (λ b. made (classes.of_both class.Text left.0.class b.class class.Int) (bound.Like n left.0.value b.value)) t left.2 in
@@ -120,7 +129,7 @@ module _ (scope : Scope) (row : List Value) (row_fits : FitsScope scope row) whe
       (subst (IsAlwaysOf class.Int) (sym (tree.like row n left.0.value right.0.value))
       (both_always class.Int _ (λ v w. told_is (negated_if n (likeness v w))) (value_of row left.0.value) (value_of row right.0.value)))
 
-  between_has : (n : Bool) (x l h : Judged Typed) (t : Typed) → between n x l h ≡ Ok t → HasClass t
+  pub between_has : (n : Bool) (x l h : Judged Typed) (t : Typed) → between n x l h ≡ Ok t → HasClass t
   between_has n x l h t is =
       let tested = first_of x (λ a. after l (λ b. after h (λ c. made (classes.compared (one_class a.class (b ∷ c ∷ []))) (bound.Between n a.value b.value c.value)))) t is in
       let low = first_of l (λ b. after h (λ c. made (classes.compared (one_class tested.0.class (b ∷ c ∷ []))) (bound.Between n tested.0.value b.value c.value))) t tested.2 in
@@ -170,28 +179,17 @@ module _ (scope : Scope) (row : List Value) (row_fits : FitsScope scope row) whe
       by None one made_c = cc
       by (Some d) one made_c = call_has f d ts one have t (ap (row_call ts) (is_ok made_c) ∙ told_t)
 
-  function_has : (name : List ℕ) (args : List (Judged Typed)) → ((ts : List Typed) → each args ≡ Ok ts → AllHaveClass ts) → (t : Typed) → row_function name args ≡ Ok t → HasClass t
+  pub function_has : (name : List ℕ) (args : List (Judged Typed)) → ((ts : List Typed) → each args ≡ Ok ts → AllHaveClass ts) → (t : Typed) → row_function name args ≡ Ok t → HasClass t
   function_has name args have t is =
       let all = first_of (each args) (λ ts. after (called name ts) (row_call ts)) t is in
       let call = first_of (called name all.0) (row_call all.0) t all.2 in
       called_has name (function_of name) all.0 call.0 call.1 (have all.0 all.1) t call.2
 
-  -- ---- the induction
-
-  abbrev IsGood : Expr → Type 0
-  IsGood e = (t : Typed) → on_rows scope e ≡ Ok t → HasClass t
-
-  abbrev Part : Type 0
-  Part = (e : Expr) × IsGood e
-
-  abbrev rows_of : Part → Judged Typed
-  rows_of p = on_rows scope p.0
-
-  -- the arguments have their classes
-  arguments : (args : List Part) (ts : List Typed) → map rows_of args ≡ map Ok ts → AllHaveClass ts
-  arguments args [] same = tt
-  arguments [] (t ∷ ts) same = cc
-  arguments (p ∷ args) (t ∷ ts) same = (p.1 t (head_is (rows_of p) (Ok t) (map rows_of args) (map Ok ts) same), arguments args ts (tail_is (rows_of p) (Ok t) (map rows_of args) (map Ok ts) same))
+  -- arguments that have their classes
+  pub arguments : {P : Type 0} (f : P → Judged Typed) → ((p : P) (t : Typed) → f p ≡ Ok t → HasClass t) → (args : List P) (ts : List Typed) → map f args ≡ map Ok ts → AllHaveClass ts
+  arguments f one args [] same = tt
+  arguments f one [] (t ∷ ts) same = cc
+  arguments f one (p ∷ args) (t ∷ ts) same = (one p t (head_is (f p) (Ok t) (map f args) (map Ok ts) same), arguments f one args ts (tail_is (f p) (Ok t) (map f args) (map Ok ts) same))
     where
       head_is : (a b : Judged Typed) (xs ys : List (Judged Typed)) → a ∷ xs ≡ b ∷ ys → a ≡ b
       head_is a b xs ys is = cc
@@ -199,39 +197,48 @@ module _ (scope : Scope) (row : List Value) (row_fits : FitsScope scope row) whe
       tail_is : (a b : Judged Typed) (xs ys : List (Judged Typed)) → a ∷ xs ≡ b ∷ ys → xs ≡ ys
       tail_is a b xs ys is = cc
 
+-- ---- the induction
+
+module _ (scope : Scope) (row : List Value) (row_fits : FitsScope scope row) where
+  abbrev IsGood : Expr → Type 0
+  IsGood e = (t : Typed) → on_rows scope e ≡ Ok t → HasClass row t
+
+  abbrev Part : Type 0
+  Part = (e : Expr) × IsGood e
+
+  abbrev rows_of : Part → Judged Typed
+  rows_of p = on_rows scope p.0
+
   abbrev level : Expr-F Part → Reading
   level y = level_reading scope (map-Expr Part Reading (λ p. reading_of scope p.0) y)
 
   rows_fused : (args : List Part) → map (λ r. r.on_rows) (map (λ (p : Part). reading_of scope p.0) args) ≡ map rows_of args
   rows_fused args = mapped (λ r. r.on_rows) (λ (p : Part). reading_of scope p.0) args
 
-  called_good : (name : List ℕ) (args : List Part) (t : Typed) → row_function name (map (λ r. r.on_rows) (map (λ (p : Part). reading_of scope p.0) args)) ≡ Ok t → HasClass t
+  called_good : (name : List ℕ) (args : List Part) (t : Typed) → row_function name (map (λ r. r.on_rows) (map (λ (p : Part). reading_of scope p.0) args)) ≡ Ok t → HasClass row t
   called_good name args t is =
-      function_has name (map rows_of args) (λ ts all. arguments args ts (each_is (map rows_of args) ts all)) t (ap (row_function name) (sym (rows_fused args)) ∙ is)
+      function_has row name (map rows_of args) (λ ts all. arguments row rows_of (λ p. p.1) args ts (each_is (map rows_of args) ts all)) t (ap (row_function name) (sym (rows_fused args)) ∙ is)
 
-  good : (y : Expr-F Part) (t : Typed) → (level y).on_rows ≡ Ok t → HasClass t
-  good (Expr-F.Value v) t is = subst HasClass (is_ok is) (by_value (class_of v) (bound.Value v) (Some v) (tree.literal row v) (always (class_of v) v (inr refl)))
+  good : (y : Expr-F Part) (t : Typed) → (level y).on_rows ≡ Ok t → HasClass row t
+  good (Expr-F.Value v) t is = subst (HasClass row) (is_ok is) (by_value row (class_of v) (bound.Value v) (Some v) (tree.literal row v) (always (class_of v) v (inr refl)))
   good (Expr-F.Name source name) t is =
       let slot = name_is scope source name t is in
-      subst HasClass (sym slot.2) (by_value slot.0.class (bound.Column slot.0.place) _ (tree.column row slot.0.place) (always slot.0.class _ (row_fits slot.0 slot.1)))
-  good (Expr-F.Not of) t is =
-      unary_has bound.Not (rows_of of) (λ e. subst (IsAlwaysOf class.Int) (sym (tree.not row e)) (then_always class.Int _ (λ v. told_is (negation (truth_of v))) (value_of row e))) t is
-  good (Expr-F.Minus of) t is =
-      unary_has bound.Minus (rows_of of) (λ e. subst (IsAlwaysOf class.Int) (sym (tree.minus row e)) (then_always class.Int negative negative_is (value_of row e))) t is
-  good (Expr-F.Plus of) t is =
-      unary_has bound.Plus (rows_of of) (λ e. subst (IsAlwaysOf class.Int) (sym (tree.plus row e)) (then_always class.Int whole whole_is (value_of row e))) t is
-  good (Expr-F.Binary o l r) t is = binary_has o (rows_of l) (rows_of r) t is
-  good (Expr-F.OneOf n l list) t is = one_of_has n (rows_of l) (map (λ r. r.on_rows) (map (λ (p : Part). reading_of scope p.0) list)) t is
-  good (Expr-F.Like n l p) t is = like_has n (rows_of l) (rows_of p) t is
-  good (Expr-F.Between n x l h) t is = between_has n (rows_of x) (rows_of l) (rows_of h) t is
+      subst (HasClass row) (sym slot.2) (by_value row slot.0.class (bound.Column slot.0.place) _ (tree.column row slot.0.place) (always slot.0.class _ (row_fits slot.0 slot.1)))
+  good (Expr-F.Not of) t is = not_has row (rows_of of) t is
+  good (Expr-F.Minus of) t is = minus_has row (rows_of of) t is
+  good (Expr-F.Plus of) t is = plus_has row (rows_of of) t is
+  good (Expr-F.Binary o l r) t is = binary_has row o (rows_of l) (rows_of r) t is
+  good (Expr-F.OneOf n l list) t is = one_of_has row n (rows_of l) (map (λ r. r.on_rows) (map (λ (p : Part). reading_of scope p.0) list)) t is
+  good (Expr-F.Like n l p) t is = like_has row n (rows_of l) (rows_of p) t is
+  good (Expr-F.Between n x l h) t is = between_has row n (rows_of x) (rows_of l) (rows_of h) t is
   good (Expr-F.Call name args) t is = by (is_aggregate (function_of name)) is
     where
-      by : (b : Bool) → (call_reading b name (map (λ (p : Part). reading_of scope p.0) args)).on_rows ≡ Ok t → HasClass t
+      by : (b : Bool) → (call_reading b name (map (λ (p : Part). reading_of scope p.0) args)).on_rows ≡ Ok t → HasClass row t
       by true said = called_good name args t said
       by false said = called_good name args t said
   good (Expr-F.CallAll name) t is = by (is_count (function_of name)) is
     where
-      by : (b : Bool) → (call_all_reading b name).on_rows ≡ Ok t → HasClass t
+      by : (b : Bool) → (call_all_reading b name).on_rows ≡ Ok t → HasClass row t
       by true said = cc
       by false said = cc
 

@@ -1,4 +1,5 @@
 mod Classes
+mod GroupClasses
 mod Judgements
 mod ScopeReads
 mod Trees

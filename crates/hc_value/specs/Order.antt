@@ -1,4 +1,4 @@
--- The order of values, which is that of SQL: section 4.1, "Sort Order", of
+-- The order of values, which is that of SQL: "Sort Order" of
 -- https://www.sqlite.org/datatype3.html, at the collation BINARY.
 use Rattle.std.specs.Prelude.{ℕ}
 use Rattle.std.specs.declared.cmp.Ordering.{Ordering}

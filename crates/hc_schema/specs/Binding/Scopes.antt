@@ -1,5 +1,5 @@
--- Which names are in scope, and what a column's name means. After https://www.sqlite.org/lang_select.html, section 2.1, and
--- lang_expr.html, section 12.
+-- Which names are in scope, and what a column's name means. After the FROM clause of https://www.sqlite.org/lang_select.html and the
+-- functions of lang_expr.html.
 use Rattle.std.specs.Prelude.{ℕ, ◌+◌, Bool, true, ◌&&◌, List, [], ◌∷◌, ◌++◌, length, Option, Some, None, Ok, Err, if◌then◌else◌}
 use Rattle.std.specs.List.{list_any, filter}
 use Rattle.hc_value.specs.declared.storage.Class.{Class}
