@@ -8,6 +8,7 @@ use Rattle.hc_base.specs.declared.page_word.PageWord.TheVariants as word
 use Rattle.atomic_table.specs.Table.{Me}
 use Rattle.hc_rule.specs.declared.view.View.{View}
 use Rattle.hc_rule.specs.declared.view.Found.{Found}
+use Rattle.hc_rule.specs.Holders.{IsRegistered}
 use Rattle.hc_rule.specs.Kinds.LoadPage.{with_found}
 use Rattle.hc_rule.specs.Kinds.StorePage.{Owns}
 use Rattle.hc_rows.specs.declared.layout.Layout.{Layout}
@@ -115,3 +116,11 @@ claims_owns p v w claims = subst (λ x. Owns x p) (sym claims.4) (row_of p 0 cla
 
 pub finds_owns : (y : Layout) (p : ℕ) (v w : View) (pages : ℕ → Type 0) → FindsTaken y pages v w → Owns v p → Owns w p
 finds_owns y p v w pages finds owns = subst (λ x. Owns x p) (sym finds.is) owns
+
+-- and the seat is registered still
+pub looks_registered : (y : Layout) (from n : ℕ) (v w : View) → LooksInTurn y from n v w → IsRegistered v.stage → IsRegistered w.stage
+looks_registered y from n v w looks registered = subst (λ (x : View). IsRegistered x.stage) (sym looks.2) registered
+
+pub takes_registered : (y : Layout) (from p : ℕ) (v w : View) → TakesInTurn y from p v w → IsRegistered v.stage → IsRegistered w.stage
+takes_registered y from p v w takes registered =
+    subst (λ (x : View). IsRegistered x.stage) (sym takes.5.3) (looks_registered y from takes.0 v takes.3 takes.4 registered)

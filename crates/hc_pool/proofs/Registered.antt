@@ -1,10 +1,15 @@
 -- What a transaction that has begun lets its seat store.
-use Rattle.std.proofs.Common.{◌≡◌, ◌∙◌, refl, sym, ap, subst, inr, ℕ, ◌≤◌, arith}
+use Rattle.std.proofs.Common.{◌≡◌, ◌≢◌, ◌∙◌, ◌⊎◌, refl, sym, ap, subst, inr, ℕ, ◌≤◌, [], ◌∷◌, arith}
 use Rattle.hc_base.specs.declared.numbers.Cid.{Cid}
 use Rattle.hc_base.specs.declared.seat_word.SeatWord.TheVariants as seat
-use Rattle.hc_core.specs.Account.{WhenOpen}
+use Rattle.hc_core.specs.Account.{WhenOpen, IsIdle, txns}
+use Rattle.hc_core.specs.Diary.{entry_of}
+use Rattle.hc_core.specs.declared.account.Account.{Account}
+use Rattle.hc_core.specs.declared.event.Event.TheVariants.{End}
+use Rattle.hc_core.specs.declared.outcome.Outcome.TheVariants.{Done}
 use Rattle.hc_rule.specs.declared.view.View.{View}
-use Rattle.hc_rule.specs.Kinds.LoadLog.{own_txns}
+use Rattle.hc_rule.specs.Holders.{IsRegistered}
+use Rattle.hc_rule.specs.Kinds.LoadLog.{own_txns, Begins, at_end}
 use Rattle.hc_rule.specs.Kinds.StoreSeat.{with_stage, MayStand, stood}
 use Rattle.hc_tidlog.specs.Looking.{Began}
 use Rattle.hc_pool.specs.Registering.{IsIdleSeat, Registers}
@@ -23,9 +28,22 @@ not_below conn v s w began =
     let seen : s.0 ≡ began.1.seen.0 = ap (λ (c : Cid). c.0) began.2 ∙ ap (λ (x : View). x.seen.0) began.1.is in
     omega (arith, least, seen)
 
--- A seat that is registered may leave, and is idle then.
-pub may_leave : (conn : ℕ) (v : View) (s : Cid) (w : View) → Registers conn v s w → MayStand seat.Idle w
-may_leave conn v s w registers = subst (λ (x : View). MayStand seat.Idle x) (sym (registers.2 ∙ ap (λ u. with_stage (seat.Snapshot s) u) registers.1.3)) (refl, inr refl)
+-- What a seat is that has registered: its word has a snapshot, it owns the pages that it had, and its transaction has done
+-- nothing.
+registered_is : (conn : ℕ) (v : View) (s : Cid) (w : View) (registers : Registers conn v s w) → w ≡ with_stage (seat.Snapshot s) (at_end Begins conn registers.1.0)
+registered_is conn v s w registers = registers.2 ∙ ap (λ u. with_stage (seat.Snapshot s) u) registers.1.3
 
-pub left_idle : (conn at : ℕ) (v : View) (s : Cid) (w : View) → Registers conn v s w → IsIdleSeat (stood seat.Idle at w)
-left_idle conn at v s w registers = subst (λ (x : View). IsIdleSeat (stood seat.Idle at x)) (sym (registers.2 ∙ ap (λ u. with_stage (seat.Snapshot s) u) registers.1.3)) (refl, refl)
+pub is_registered : (conn : ℕ) (v : View) (s : Cid) (w : View) → Registers conn v s w → IsRegistered w.stage
+is_registered conn v s w registers = subst (λ (x : View). IsRegistered x.stage) (sym (registered_is conn v s w registers)) tt
+
+pub same_pages : (conn : ℕ) (v : View) (s : Cid) (w : View) → Registers conn v s w → w.pages ≡ v.pages
+same_pages conn v s w registers = ap (λ (x : View). x.pages) (registered_is conn v s w registers) ∙ ap (λ (x : View). x.pages) registers.1.1.is
+
+-- It may leave as long as its account is the same and it owns no page, and is idle then.
+pub may_leave : (conn : ℕ) (v : View) (s : Cid) (w x : View) → Registers conn v s w → x.account ≡ w.account → x.pages ≡ [] → MayStand seat.Idle x
+may_leave conn v s w x registers same none =
+    (subst (λ (a : Account). WhenOpen (txns a.entries) (λ t. (t.place ≢ 0) ⊎ (t.write_set ≡ []))) (sym (same ∙ ap (λ (z : View). z.account) (registered_is conn v s w registers))) (refl, inr refl), none)
+
+pub left_idle : (conn at : ℕ) (v : View) (s : Cid) (w x : View) → Registers conn v s w → x.account ≡ w.account → IsIdleSeat (stood seat.Idle at x)
+left_idle conn at v s w x registers same =
+    (refl, subst (λ (a : Account). IsIdle (txns (entry_of (End at) Done ∷ a.entries))) (sym (same ∙ ap (λ (z : View). z.account) (registered_is conn v s w registers))) refl)

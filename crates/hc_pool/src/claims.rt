@@ -2,6 +2,7 @@
 ghost use Rattle.std.specs.Prelude.{◌≡◌, ◌<◌, ◌≤◌, IfOk, IfErr};
 ghost use Rattle.hc_base.specs.declared.full.Full.TheVariants.{Pages};
 ghost use Rattle.hc_rows.specs.Places.{HasPage};
+ghost use Rattle.hc_rule.specs.Holders.{IsRegistered};
 ghost use Rattle.hc_rule.specs.Views.{bare};
 ghost use Rattle.hc_rule.specs.Kinds.StorePage.{Owns, without};
 ghost use Rattle.hc_steps.specs.Same.{IsSame, IsAlike};
@@ -14,13 +15,16 @@ use hc_steps::Grip;
 /// to be another than that of a free page, and repeats `floor`. The next claim begins at the page that was claimed.
 ///
 /// It looks at the pages in turn from where the seat looked last, goes once round, and loads the word of each page once at most.
+/// The seat is registered.
 pub fn claim(grip: &mut Grip<'_>, floor: Cid) -> Result<Phys, Full>
+    requires registered { IsRegistered grip.old.seat.me.0.stage }
     ensures claimed { IfOk result (λ p. HasPage grip.old.layout p.0 × Claims p.0 grip.old.seat.me.0 grip.new.seat.me.0) }
     ensures full { IfErr result (λ full. full ≡ Pages grip.old.layout.pages floor) }
     ensures cause { IfErr result (λ _. FindsTaken grip.old.layout (HasPage grip.old.layout) grip.old.seat.me.0 grip.new.seat.me.0) }
     ensures taken { IfOk result (λ p. TakesInTurn grip.old.layout grip.old.hint p.0 grip.old.seat.me.0 grip.new.seat.me.0) }
     ensures round { IfErr result (λ _. LooksInTurn grip.old.layout grip.old.hint grip.old.layout.pages grip.old.seat.me.0 grip.new.seat.me.0) }
     ensures next { IfOk result (λ p. grip.new.hint ≡ p.0) × IfErr result (λ _. grip.new.hint ≡ grip.old.hint) }
+    ensures registered { IsRegistered grip.new.seat.me.0.stage }
     ensures same { IsAlike grip.old grip.new }
 {
     let pages = grip.layout.pages;
@@ -52,6 +56,7 @@ fn page_in_turn(pages: u32, from: u32, n: u32) -> u32
 // Claims a page where it is found free. A page that another seat takes between was found taken.
 fn try_claim(grip: &mut Grip<'_>, p: Phys) -> bool
     requires page { HasPage grip.old.layout p.0 }
+    requires registered { IsRegistered grip.old.seat.me.0.stage }
     ensures tried { Tried grip.old.layout p.0 grip.old.seat.me.0 result grip.new.seat.me.0 }
     ensures same { IsSame grip.old grip.new }
 {

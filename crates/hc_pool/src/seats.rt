@@ -1,6 +1,7 @@
 //! Seats that are registered while their transaction is open.
-ghost use Rattle.std.specs.Prelude.{◌≡◌, ◌≤◌};
+ghost use Rattle.std.specs.Prelude.{◌≡◌, ◌≤◌, []};
 ghost use Rattle.hc_base.specs.declared.seat_word.SeatWord.TheVariants.{Idle};
+ghost use Rattle.hc_rule.specs.Holders.{IsRegistered};
 ghost use Rattle.hc_rule.specs.Views.{bare};
 ghost use Rattle.hc_rule.specs.Kinds.StoreSeat.{MayStand, stood};
 ghost use Rattle.hc_steps.specs.Same.{IsSame};
@@ -10,11 +11,13 @@ use hc_base::Cid;
 use hc_steps::Grip;
 use hc_tidlog::begin;
 
-/// Registers an idle seat: its transaction begins, with the log's end as its snapshot, which is not below what the seat has
-/// seen before. Others see first that it is starting, and then its snapshot.
+/// Registers an idle seat, which owns no page: its transaction begins, with the log's end as its snapshot, which is not below
+/// what the seat has seen before. Others see first that it is starting, and then its snapshot.
 pub fn register(grip: &mut Grip<'_>) -> Cid
     requires idle { IsIdleSeat grip.old.seat.me.0 }
     ensures registered { Registers grip.old.conn grip.old.seat.me.0 result grip.new.seat.me.0 }
+    ensures may_claim { IsRegistered grip.new.seat.me.0.stage }
+    ensures none { grip.new.seat.me.0.pages ≡ [] }
     ensures least { grip.old.seat.me.0.seen.0 ≤ result.0 }
     ensures same { IsSame grip.old grip.new }
 {
@@ -24,7 +27,8 @@ pub fn register(grip: &mut Grip<'_>) -> Cid
     snapshot
 }
 
-/// Ends the transaction of a registered seat, which is idle then. It is committed, or nothing is in its write set.
+/// Ends the transaction of a registered seat, which is idle then. It is committed, or nothing is in its write set, and the
+/// seat owns no page.
 pub fn leave(grip: &mut Grip<'_>)
     requires may_end { MayStand Idle grip.old.seat.me.0 }
     ensures left { grip.new.seat.me ≡ bare (stood Idle grip.old.conn grip.old.seat.me.0) }

@@ -1,5 +1,6 @@
 pub mod Along
 pub mod Entering
+pub mod Holding
 pub mod Kept
 pub mod Laying
 pub mod LogSteps

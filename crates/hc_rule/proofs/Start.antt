@@ -205,6 +205,7 @@ start_holds y words first =
       dealt = first_dealt y.seats;
       state = but (but (λ p. Free) 1 (Named 1)) 2 (Named 2);
       stated = stated_along (but (but (λ p. Free) 1 (Named 1)) 2 (Named 2)) _ _ _ _ _ _ _ _ _ _ first.pages first.maps refl pages claims first_stated;
+      held = record { registered = λ i row there. absurd (subst (λ f. Among row (f i)) pages there) };
       reached = reached_along (but (but (λ p. Free) 1 (Named 1)) 2 (Named 2)) _ _ _ _ _ _ refl loads pages (first_reached (rows y words) (first_leaf, first.leaf) (first_inner, first.inner));
       recorded =
           recorded_along y.transactions _ _ _ _ _ _ _ _ _ _ first.others.seat first.others.tid first.others.log refl

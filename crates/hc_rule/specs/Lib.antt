@@ -1,6 +1,7 @@
 pub mod Accounts
 pub mod CommitLog
 pub mod Hands
+pub mod Holders
 pub mod Kinds
 pub mod Reach
 pub mod Recorded

@@ -8,6 +8,7 @@ use Rattle.hc_rule.specs.declared.view.View.{View}
 use Rattle.hc_rule.specs.Views.{known, knowledge_of}
 use Rattle.hc_rule.specs.Seats.{IsDealt}
 use Rattle.hc_rule.specs.States.{State, IsStated}
+use Rattle.hc_rule.specs.Holders.{AreHolders}
 use Rattle.hc_rule.specs.Reach.{IsReached}
 use Rattle.hc_rule.specs.Recorded.{IsRecorded}
 
@@ -20,6 +21,10 @@ Stated y state words views =
 abbrev pub Reached : Layout → (ℕ → State) → List ℕ → List View → Type 0
 Reached y state words views = IsReached state (rows y words) (known (λ v. v.loaded) views) (known (λ v. v.pages) views)
 
+-- who owns pages
+abbrev pub Held : List View → Type 0
+Held views = AreHolders (known (λ v. v.stage) views) (known (λ v. v.pages) views)
+
 -- accounts and the log
 abbrev pub Recorded : Layout → List ℕ → List View → Type 0
 Recorded y words views = IsRecorded y.transactions (seat_words y words) (tid_words y words) (log_words y words) (known (λ v. v.role) views) (known knowledge_of views)
@@ -31,5 +36,6 @@ pub record Holds (y : Layout) (words : List ℕ) (views : List View) : Type 0 wh
   pub dealt : IsDealt y.seats (known (λ v. v.role) views)
   pub state : ℕ → State
   pub stated : Stated y state words views
+  pub held : Held views
   pub reached : Reached y state words views
   pub recorded : Recorded y words views

@@ -1,6 +1,7 @@
 -- States: the state of each page. A page is in one state by definition; the rule says that its word is the form of the
 -- state, that the map names exactly the named pages, and that each seat knows exactly the pages that it owns. No step yet
--- makes a page ready, replaced, pending or one of limbo; what seats know of these comes with the steps that do.
+-- makes a page ready, replaced, pending or one of limbo, and the views' lists of these are empty; that each has exactly its
+-- states comes with the steps that fill it.
 use Rattle.std.specs.Prelude.{◌≡◌, ◌≢◌, ℕ, ◌<◌, List, ⊤}
 use Rattle.hc_base.specs.Lookup.{Among}
 use Rattle.hc_base.specs.Words.{IsPageWord, page_word, map_word}

@@ -87,15 +87,15 @@ pub struct View {
     pub places: LinkedList<SeenPlace>,
     /// The pages that it reached since its transaction began, with their rows.
     pub loaded: LinkedList<Row>,
-    /// The pages that it knows to be replaced.
+    /// The pages that it knows to be replaced. No step fills this list yet.
     pub replaced: LinkedList<Phys>,
     /// The pages that it owns, with what it wrote.
     pub pages: LinkedList<Row>,
-    /// The pages whose words say that they are mapped, and that the map is about to name.
+    /// The pages whose words say that they are mapped, and that the map is about to name. No step fills this list yet.
     pub ready: LinkedList<Row>,
-    /// The pages that its transaction replaced while it is undecided.
+    /// The pages that its transaction replaced while it is undecided. No step fills this list yet.
     pub pending: LinkedList<Phys>,
-    /// The logical numbers in its hand.
+    /// The logical numbers in its hand. No step fills this list yet.
     pub numbers: LinkedList<Logical>,
     /// The words of pages, as its steps found them.
     pub found: LinkedList<Found>,

@@ -12,8 +12,8 @@ use hc_base::Cid;
 use hc_rows::Layout;
 use hc_rule::View;
 
-/// What a seat has seen and was told of, to be told to another seat of the same table. It has no connection, page or
-/// number.
+/// How much of the log a seat has seen, and the accounts of its own connection and of those that it was told of, to be told to
+/// another seat of the same table.
 #[derive(Drop)]
 pub struct Note {
     /// How many places of the log that seat has seen taken.
@@ -63,7 +63,8 @@ fn learn_as(table: &Words, layout: &Layout, seat: &mut Token, note: Token)
 }
 
 impl<'a> Grip<'a> {
-    /// A note of what the seat has seen and was told of, for another seat of the same table.
+    /// A note of how much of the log the seat has seen and of the accounts that it can tell of, for another seat of the same
+    /// table.
     pub fn tell(&mut self) -> Note
         ensures note { result.seat.me.0 ≡ note_of self.old.seat.me.0 }
         ensures table { result.seat.table_id ≡ self.old.seat.table_id }
@@ -78,7 +79,7 @@ impl<'a> Grip<'a> {
         }
     }
 
-    /// Takes in what another seat of the table has seen and was told of.
+    /// Takes in the note of another seat of the table.
     pub fn learn(&mut self, note: Note)
         requires table { note.seat.table_id ≡ self.old.seat.table_id }
         requires seen { note.seen.0 ≤ self.old.layout.transactions }

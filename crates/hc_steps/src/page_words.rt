@@ -2,6 +2,7 @@
 ghost use Rattle.std.specs.Prelude.{◌≡◌, ℕ};
 ghost use Rattle.hc_base.specs.Words.{IsPageWord, page_word};
 ghost use Rattle.hc_rows.specs.Places.{HasPage, page_at};
+ghost use Rattle.hc_rule.specs.Holders.{IsRegistered};
 ghost use Rattle.hc_rule.specs.Views.{bare};
 ghost use Rattle.hc_base.specs.declared.page_word.PageWord.{PageWord as Form};
 ghost use Rattle.hc_base.specs.declared.page_word.PageWord.TheVariants.{Free};
@@ -68,6 +69,7 @@ fn take_page_as<N: Taking>(
     requires seated { IsSeated table.now.table_id table.now.key layout.now seat.old.table_id seat.old.me }
     requires connected { seat.old.me.0.role ≡ Connection conn }
     requires page { HasPage layout.now p.0 }
+    requires registered { IsRegistered seat.old.me.0.stage }
     requires picked { (N.page ≡ p.0) × (N.next ≡ next) }
     ensures table { seat.new.table_id ≡ seat.old.table_id }
     ensures told { TakesPage (page_at layout.now p.0) p.0 next seat.old.me.0 result seat.new.me }
@@ -133,9 +135,10 @@ impl<'a> Grip<'a> {
     }
 
     /// Exchanges the word of a free page, `seen`, by one that says that this seat owns it and that `next` is the next page
-    /// that it owns, 0 at the end. Whether it was free still: else the seat notes what it found.
+    /// that it owns, 0 at the end. Whether it was free still: else the seat notes what it found. The seat is registered.
     pub fn take_page(&mut self, p: Phys, seen: PageWord, next: u32) -> bool
         requires page { HasPage self.old.layout p.0 }
+        requires registered { IsRegistered self.old.seat.me.0.stage }
         requires seen { seen ≡ Free }
         ensures taken { TookPage (page_at self.old.layout p.0) p.0 next self.old.seat.me.0 result self.new.seat.me }
         ensures same { IsSame self.old self.new }

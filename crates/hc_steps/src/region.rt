@@ -65,8 +65,7 @@ fn first_hint(layout: &Layout, conn: u32) -> u32
     ensures page { HasPage layout.now result }
     ensures hint { result ≡ first_hint_of layout.now conn }
 {
-    let between = u64::from(layout.pages / layout.seats);
-    (u64::from(conn) * between % u64::from(layout.pages)) as u32 + 1
+    (u64::from(conn) * u64::from(layout.pages) / u64::from(layout.seats)) as u32 + 1
 }
 
 impl Region {

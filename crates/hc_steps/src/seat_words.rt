@@ -1,5 +1,5 @@
 //! Steps on the word of the seat's own connection.
-ghost use Rattle.std.specs.Prelude.{◌≡◌, ◌<◌};
+ghost use Rattle.std.specs.Prelude.{◌≡◌, ◌<◌, []};
 ghost use Rattle.hc_base.specs.Words.{IsSeatWord};
 ghost use Rattle.hc_base.specs.declared.seat_word.SeatWord.TheVariants.{Idle, Starting, Snapshot};
 ghost use Rattle.hc_rule.specs.Views.{bare};
@@ -52,9 +52,10 @@ fn store_seat_as<N: Standing>(
 }
 
 impl<'a> Grip<'a> {
-    /// Stores that the seat is about to take a snapshot. It is idle.
+    /// Stores that the seat is about to take a snapshot. It is idle, and so owns no page.
     pub fn store_starting(&mut self)
         requires idle { MayStand Starting self.old.seat.me.0 }
+        ensures none { self.old.seat.me.0.pages ≡ [] }
         ensures seat { self.new.seat.me ≡ bare (stood Starting self.old.conn self.old.seat.me.0) }
         ensures same { IsSame self.old self.new }
     {
@@ -82,7 +83,8 @@ impl<'a> Grip<'a> {
         );
     }
 
-    /// Stores that the seat is idle: its transaction ends. It is committed, or nothing is in its write set.
+    /// Stores that the seat is idle: its transaction ends. It is committed, or nothing is in its write set, and the seat owns
+    /// no page.
     pub fn store_idle(&mut self)
         requires may_end { MayStand Idle self.old.seat.me.0 }
         ensures seat { self.new.seat.me ≡ bare (stood Idle self.old.conn self.old.seat.me.0) }

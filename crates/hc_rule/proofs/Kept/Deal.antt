@@ -25,6 +25,7 @@ use Rattle.hc_rule.specs.Recorded.{IsRecorded}
 use Rattle.hc_rule.specs.Rule.{Holds}
 use Rattle.hc_rule.specs.Kinds.Deal.{dealt_by, dealer_after, seat_dealt}
 use Rattle.hc_rule.proofs.Along.{stated_along, reached_along, recorded_along}
+use Rattle.hc_rule.proofs.Holding.{holders_along}
 use Rattle.hc_rule.proofs.Roles.{number_of, not_both, not_nobody}
 use Rattle.hc_rule.proofs.PageStates.{stated_seats, reached_seats}
 use Rattle.hc_rule.proofs.Views.{known_is, known_kept, known_more, known_split, nobody_past}
@@ -184,6 +185,10 @@ deal_kept y words views id n v at dealer room h =
     known_split (λ x. x.claimed) views id v (dealer_after v) (seat_dealt v) at ∙ ap (λ xs. but (but (known (λ x. x.claimed) views) id xs) (length views) []) (sym (known_is (λ x. x.claimed) views id v at)) in
     let loads : known (λ x. x.loaded) (set views id (dealer_after v) ++ (seat_dealt v ∷ [])) ≡ but (but (known (λ x. x.loaded) views) id (known (λ x. x.loaded) views id)) (length views) [] =
     known_split (λ x. x.loaded) views id v (dealer_after v) (seat_dealt v) at ∙ ap (λ xs. but (but (known (λ x. x.loaded) views) id xs) (length views) []) (sym (known_is (λ x. x.loaded) views id v at)) in
+    let stages : known (λ x. x.stage) (set views id (dealer_after v) ++ (seat_dealt v ∷ [])) ≡ known (λ x. x.stage) views =
+    known_more (λ x. x.stage) (set views id (dealer_after v)) (seat_dealt v) refl ∙ known_kept (λ x. x.stage) views id v (dealer_after v) at refl in
+    let hand_is : known (λ x. x.pages) (set views id (dealer_after v) ++ (seat_dealt v ∷ [])) ≡ known (λ x. x.pages) views =
+    known_more (λ x. x.pages) (set views id (dealer_after v)) (seat_dealt v) refl ∙ known_kept (λ x. x.pages) views id v (dealer_after v) at refl in
     let knows : known knowledge_of (set views id (dealer_after v) ++ (seat_dealt v ∷ [])) ≡ known knowledge_of views =
     known_more knowledge_of (set views id (dealer_after v)) (seat_dealt v) refl ∙ known_kept knowledge_of views id v (dealer_after v) at refl in
     record {
@@ -195,6 +200,7 @@ deal_kept y words views id n v at dealer room h =
           stated_along h.state _ _ _ _ _ _ _ _ _ _ refl refl roles hands claimed
           (stated_seats h.state (page_words y words) (map_words y words) role _ hand _ claims _ (stays_connection y.seats role h.dealt id m n dealer_is none room) (split_back hand id m)
           (split_there hand id m (nobody_past (λ x. x.pages) views)) (split_claims claims id m (nobody_past (λ x. x.claimed) views)) h.stated);
+      held = holders_along _ _ _ _ stages hand_is h.held;
       reached =
           reached_along h.state _ _ _ _ _ _ refl loads hands
           (reached_seats h.state (rows y words) loaded _ hand _ (split_back loaded id m) (split_back hand id m) h.reached);

@@ -38,7 +38,7 @@ use Rattle.hc_rule.specs.Seen.{IsSeenPlace}
 use Rattle.hc_rule.specs.Recorded.{IsRecorded, txns_of}
 use Rattle.hc_rule.specs.Rule.{Holds, Recorded}
 use Rattle.hc_rule.specs.Kinds.LoadLog.{own_txns, with_entry, later, with_place, Looking, Looks, Begins, Proposes, Asks, at_end, LogLoad, LoadsLog}
-use Rattle.hc_rule.proofs.Along.{holds_with, recorded_along}
+use Rattle.hc_rule.proofs.Along.{holds_with, held_along, recorded_along}
 use Rattle.hc_rule.proofs.Entering.{AllGo, seen_on, staged_changed, own_changed, recorded_entered}
 use Rattle.hc_rule.proofs.LogSteps.{stage_changed, newest_of, idle_id, running_id, logged_begun, worded_begun, all_begun, logged_changed, worded_changed, all_changed}
 use Rattle.hc_rule.proofs.OwnSeat.{field_is, account_is, seen_within, not_past, at_size, id_within, place_within, before_end, words_old, places_old, stage_is}
@@ -126,9 +126,9 @@ module _ (last seats : ℕ) (seat_at tid_at log : ℕ → ℕ) (role : ℕ → R
   recorded_at_end Begins c none asked = recorded_begun (subst (λ n. log n ≡ 0) asked.0 none) asked.1 asked.2
   recorded_at_end Proposes c none asked = recorded_proposed (subst (λ n. log n ≡ 0) asked.0 none) asked.1
 
--- no word changes, and of the view what is known of transactions alone
+-- no word changes, and of the view what is known of transactions alone, and not the stage
 abbrev pub LeavesRest : View → View → Type 0
-LeavesRest v w = (w.role ≡ v.role) × (w.pages ≡ v.pages) × (w.claimed ≡ v.claimed) × (w.loaded ≡ v.loaded)
+LeavesRest v w = (w.role ≡ v.role) × (w.pages ≡ v.pages) × (w.claimed ≡ v.claimed) × (w.loaded ≡ v.loaded) × (w.stage ≡ v.stage)
 
 pub knowledge_kept : (y : Layout) (words : List ℕ) (views : List View) (id : ℕ) (v w : View) → get_elem? views id ≡ some v → Holds y words views → LeavesRest v w
     → IsRecorded y.transactions (seat_words y words) (tid_words y words) (log_words y words) (known (λ x. x.role) views) (but (known knowledge_of views) id (knowledge_of w))
@@ -136,12 +136,13 @@ pub knowledge_kept : (y : Layout) (words : List ℕ) (views : List View) (id : �
 knowledge_kept y words views id v w at h leaves recorded =
     let roles = known_kept (λ x. x.role) views id v w at leaves.0 in
     holds_with y words words views (set views id w) h refl refl refl refl roles (known_kept (λ x. x.pages) views id v w at leaves.1) (known_kept (λ x. x.claimed) views id v w at leaves.2) (known_kept (λ x. x.loaded) views id v w at leaves.3)
+    (held_along views (set views id w) (known_kept (λ x. x.stage) views id v w at leaves.4) (known_kept (λ x. x.pages) views id v w at leaves.1) h.held)
     (recorded_along y.transactions _ _ _ _ _ _ _ _ _ _ refl refl refl roles (known_set knowledge_of views id v w at) recorded)
 
 leaves_rest : (kind : Looking) (conn : ℕ) (v : View) → LeavesRest v (at_end kind conn v)
-leaves_rest Looks conn v = (refl, refl, refl, refl)
-leaves_rest Begins conn v = (refl, refl, refl, refl)
-leaves_rest Proposes conn v = (refl, refl, refl, refl)
+leaves_rest Looks conn v = (refl, refl, refl, refl, refl)
+leaves_rest Begins conn v = (refl, refl, refl, refl, refl)
+leaves_rest Proposes conn v = (refl, refl, refl, refl, refl)
 
 pub load_log_allows : (y : Layout) (slots id : ℕ) (l : LogLoad) (v : View) → HasPlace y l.c → v.role ≡ Connection l.conn → l.last ≡ y.transactions → Asks l.kind l.c v
     → Allows (λ (s : TableState Unit View). Holds y s.words s.views) slots id (bare v) (log_at y l.c) (λ n. n) (λ n after. LoadsLog l v n after)
@@ -168,7 +169,7 @@ load_log_allows y slots id l v there mine last asked s h len at below =
       keeps,
       tt,
       subst (λ ws. Holds y ws (set s.views id (with_place l.c (get_or s.words (log_at y l.c) 0) v))) (sym (set-get_or s.words (log_at y l.c) 0))
-          (knowledge_kept y s.words s.views id v (with_place l.c (get_or s.words (log_at y l.c) 0) v) at h (refl, refl, refl, refl)
+          (knowledge_kept y s.words s.views id v (with_place l.c (get_or s.words (log_at y l.c) 0) v) at h (refl, refl, refl, refl, refl)
           (recorded_placed y.transactions y.seats (seat_words y s.words) (tid_words y s.words) (log_words y s.words) role know h.recorded h.dealt id l.conn mine_is v is l.c (get_or s.words (log_at y l.c) 0) here taken)),
       inr (taken, omega (arith, within, here, last), omega (arith, few, last), refl),
     ))

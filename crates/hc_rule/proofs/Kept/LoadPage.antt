@@ -22,7 +22,7 @@ found_kept y words views id v place n at h =
     let w = with_found place n v in
     holds_along y words words views (set views id (with_found place n v)) h refl refl refl refl (known_kept (λ x. x.role) views id v w at refl) (known_kept (λ x. x.pages) views id v w at refl)
     (known_kept (λ x. x.claimed) views id v w at refl) (known_kept (λ x. x.loaded) views id v w at refl)
-    (record { seat = refl; tid = refl; log = refl }) (known_kept knowledge_of views id v w at refl)
+    (record { seat = refl; tid = refl; log = refl }) (known_kept (λ x. x.stage) views id v w at refl) (known_kept knowledge_of views id v w at refl)
 
 pub load_page_allows : (y : Layout) (slots id : ℕ) (v : View) (p : ℕ) → HasPage y p
     → Allows (λ (s : TableState Unit View). Holds y s.words s.views) slots id (bare v) (page_at y p) (λ n. n) (λ n after. LoadsPage (page_at y p) v n after)

@@ -19,7 +19,7 @@ use Rattle.hc_rule.specs.Accounts.{AreAccounts, HasBegun}
 use Rattle.hc_rule.specs.Recorded.{IsRecorded}
 use Rattle.hc_rule.specs.Rule.{Holds, Recorded}
 use Rattle.hc_rule.specs.Kinds.Note.{told_by, note_of, informed}
-use Rattle.hc_rule.proofs.Along.{holds_with, recorded_along}
+use Rattle.hc_rule.proofs.Along.{holds_with, held_along, recorded_along}
 use Rattle.hc_rule.proofs.Recording.{IsSameOwn, IsTrue, recorded_learned}
 use Rattle.hc_rule.proofs.Roles.{not_nobody}
 use Rattle.hc_rule.proofs.Views.{known_is, known_kept, known_set, known_new, known_more, nobody_past}
@@ -83,6 +83,7 @@ note_splits y id v s h at =
     subst (λ vs. Holds y s.words (vs ++ (note_of v ∷ []))) (sym (set_again s.views id v at))
     (holds_with y s.words s.words s.views (s.views ++ (note_of v ∷ [])) h refl refl refl refl roles (known_more (λ x. x.pages) s.views (note_of v) refl)
     (known_more (λ x. x.claimed) s.views (note_of v) refl) (known_more (λ x. x.loaded) s.views (note_of v) refl)
+    (held_along s.views (s.views ++ (note_of v ∷ [])) (known_more (λ x. x.stage) s.views (note_of v) refl) (known_more (λ x. x.pages) s.views (note_of v) refl) h.held)
     (recorded_along y.transactions _ _ _ _ _ _ _ _ _ _ refl refl refl roles (known_new knowledge_of s.views (note_of v)) told))
 
 -- a field of neither seat that the join changes
@@ -107,4 +108,6 @@ note_joins y id other v w note s h at differs there =
     (same_twice (λ x. x.pages) s.views id other v w (informed v w) nobody at there refl (ap (λ (x : View). x.pages) (sym note)))
     (same_twice (λ x. x.claimed) s.views id other v w (informed v w) nobody at there refl (ap (λ (x : View). x.claimed) (sym note)))
     (same_twice (λ x. x.loaded) s.views id other v w (informed v w) nobody at there refl (ap (λ (x : View). x.loaded) (sym note)))
+    (held_along s.views (set (set s.views id (informed v w)) other nobody) (same_twice (λ x. x.stage) s.views id other v w (informed v w) nobody at there refl (ap (λ (x : View). x.stage) (sym note)))
+    (same_twice (λ x. x.pages) s.views id other v w (informed v w) nobody at there refl (ap (λ (x : View). x.pages) (sym note))) h.held)
     (recorded_along y.transactions _ _ _ _ _ _ _ _ _ _ refl refl refl roles (known_set knowledge_of (set s.views id (informed v w)) other w nobody there ∙ ap (λ g. but g other (knowledge_of nobody)) (known_set knowledge_of s.views id v (informed v w) at)) joined)

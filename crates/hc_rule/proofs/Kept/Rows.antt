@@ -21,7 +21,7 @@ use Rattle.hc_rule.specs.Kinds.Rows.{with_word, LoadsRow, StoresRow}
 use Rattle.hc_rule.proofs.Along.{holds_after}
 use Rattle.hc_rule.proofs.RowStates.{stated_row, reached_row}
 use Rattle.hc_rule.proofs.Views.{known_is, known_kept}
-use Rattle.hc_rule.proofs.Kept.StorePage.{owned, role_is}
+use Rattle.hc_rule.proofs.Kept.StorePage.{owned, role_is, registered}
 
 pub store_row_kept : (y : Layout) (words : List ℕ) (views : List View) (id p conn word n : ℕ) (v : View) → Holds y words views → HasPage y p → get_elem? views id ≡ some v → v.role ≡ Connection conn → Owns v p → word < 256
     → Holds y (set words (row_at y p word) n) (set views id (with_word p word n v))
@@ -32,7 +32,7 @@ store_row_kept y words views id p conn word n v h there at mine owns within =
     let claims = known (λ x. x.claimed) views in
     let is = owned y words views id p conn v h there at mine owns in
     let seat = role_is y words views id p conn v h there at mine owns in
-    holds_after y words _ views id v (with_word p word n v) h at (length-set words (row_at y p word) n) refl refl (record { seat = step.seat; tid = step.tid; log = step.log }) refl
+    holds_after y words _ views id v (with_word p word n v) h at (length-set words (row_at y p word) n) refl refl (record { seat = step.seat; tid = step.tid; log = step.log }) (registered y words views id p conn v h there at mine owns) refl
     h.state _ _ _ step.page step.map step.row (changed p (set_word word n) (known (λ x. x.pages) views id)) _ (λ same. ap (λ xs. changed p (set_word word n) xs) (sym same)) (known_kept (λ x. x.claimed) views id v (with_word p word n v) at refl)
     (stated_row h.state (page_words y words) (map_words y words) role hand claims h.stated id p conn is seat h.dealt.one_seat word n)
     (reached_row h.state (page_words y words) (map_words y words) role hand claims h.stated id p conn is seat h.dealt.one_seat word n (rows y words) (known (λ x. x.loaded) views) h.reached)

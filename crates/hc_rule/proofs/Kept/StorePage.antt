@@ -15,6 +15,7 @@ use Rattle.hc_rule.specs.declared.view.View.{View}
 use Rattle.hc_rule.specs.declared.view.Role.TheVariants.{Connection}
 use Rattle.hc_rule.specs.Views.{known, bare}
 use Rattle.hc_rule.specs.States.{Free, Owned, IsOwnedBy}
+use Rattle.hc_rule.specs.Holders.{IsRegistered}
 use Rattle.hc_rule.specs.Rule.{Holds}
 use Rattle.hc_rule.specs.Hands.{changed, set_next, without_page}
 use Rattle.hc_rule.specs.Kinds.StorePage.{Owns, MayStore, without, with_next, stored, StoresPage}
@@ -36,6 +37,10 @@ module _ (y : Layout) (words : List ℕ) (views : List View) (id p conn : ℕ) (
       let who : was.0 ≡ conn = same_number was.0 conn (sym was.1 ∙ role_is) in
       subst (λ q. IsOwnedBy conn (h.state q)) owns.2 (subst (λ c. IsOwnedBy c (h.state owns.0.page.0)) who (is_owned (h.state owns.0.page.0) was.0 owns.0.next was.2))
 
+  -- so its seat is registered
+  pub registered : IsRegistered v.stage
+  registered = subst (λ s. IsRegistered s) (known_is (λ x. x.stage) views id v at) (h.held.registered id owns.0 (subst (Among owns.0) (sym (known_is (λ x. x.pages) views id v at)) owns.1))
+
   small : conn < 2 ^ 8
   small = omega (arith, h.dealt.there id conn role_is, h.layout.seats)
 
@@ -45,7 +50,7 @@ module _ (y : Layout) (words : List ℕ) (views : List View) (id p conn : ℕ) (
       let role = known (λ x. x.role) views in
       let hand = known (λ x. x.pages) views in
       let claims = known (λ x. x.claimed) views in
-      holds_after y words _ views id v (with_next p next v) h at (length-set words (page_at y p) (page_word (word.Owned conn next))) refl refl (record { seat = step.seat; tid = step.tid; log = step.log }) refl
+      holds_after y words _ views id v (with_next p next v) h at (length-set words (page_at y p) (page_word (word.Owned conn next))) refl refl (record { seat = step.seat; tid = step.tid; log = step.log }) registered refl
       (but h.state p (Owned conn next)) _ _ _ step.page step.map step.row (changed p (set_next next) (known (λ x. x.pages) views id)) _ (λ is. ap (λ xs. changed p (set_next next) xs) (sym is)) (known_kept (λ x. x.claimed) views id v (with_next p next v) at refl)
       (stated_next h.state (page_words y words) (map_words y words) role hand claims h.stated id p conn owned role_is h.dealt.one_seat next small short)
       (reached_next h.state (page_words y words) (map_words y words) role hand claims h.stated id p conn owned role_is h.dealt.one_seat next small short (rows y words) (known (λ x. x.loaded) views) h.reached)
@@ -56,7 +61,7 @@ module _ (y : Layout) (words : List ℕ) (views : List View) (id p conn : ℕ) (
       let role = known (λ x. x.role) views in
       let hand = known (λ x. x.pages) views in
       let claims = known (λ x. x.claimed) views in
-      holds_after y words _ views id v (without p v) h at (length-set words (page_at y p) (page_word word.Free)) refl refl (record { seat = step.seat; tid = step.tid; log = step.log }) refl
+      holds_after y words _ views id v (without p v) h at (length-set words (page_at y p) (page_word word.Free)) refl refl (record { seat = step.seat; tid = step.tid; log = step.log }) registered refl
       (but h.state p Free) _ _ _ step.page step.map step.row (without_page p (known (λ x. x.pages) views id)) _ (λ is. ap (λ xs. without_page p xs) (sym is)) (known_kept (λ x. x.claimed) views id v (without p v) at refl)
       (stated_free h.state (page_words y words) (map_words y words) role hand claims h.stated id p conn owned role_is h.dealt.one_seat)
       (reached_free h.state (page_words y words) (map_words y words) role hand claims h.stated id p conn owned role_is h.dealt.one_seat (rows y words) (known (λ x. x.loaded) views) h.reached)

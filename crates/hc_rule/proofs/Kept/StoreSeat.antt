@@ -20,6 +20,7 @@ use Rattle.hc_rows.specs.Regions.{seat_words, tid_words, log_words}
 use Rattle.hc_rows.proofs.Steps.{at_seat}
 use Rattle.hc_rule.specs.declared.view.View.{View}
 use Rattle.hc_rule.specs.declared.view.Role.{Role}
+use Rattle.hc_rule.specs.declared.view.Row.{Row}
 use Rattle.hc_rule.specs.declared.view.Role.TheVariants.{Connection}
 use Rattle.hc_rule.specs.Views.{Knowledge, knowledge_of, known, bare}
 use Rattle.hc_rule.specs.Seats.{IsDealt}
@@ -29,7 +30,9 @@ use Rattle.hc_rule.specs.Recorded.{IsRecorded, txns_of}
 use Rattle.hc_rule.specs.Rule.{Holds}
 use Rattle.hc_rule.specs.Kinds.LoadLog.{own_txns}
 use Rattle.hc_rule.specs.Kinds.StoreSeat.{with_stage, MayStand, stood, SeatStore, StoresSeat}
+use Rattle.hc_rule.specs.Holders.{IsRegistered}
 use Rattle.hc_rule.proofs.Along.{holds_with, recorded_along}
+use Rattle.hc_rule.proofs.Holding.{holders_along, holders_stage, idle_none}
 use Rattle.hc_rule.proofs.Entering.{seen_on, staged_changed, own_changed, recorded_entered}
 use Rattle.hc_rule.proofs.LogSteps.{newest_of, logged_changed, worded_changed, all_changed}
 use Rattle.hc_rule.proofs.OwnSeat.{field_is, account_is, seen_within, words_old, places_old, stage_is}
@@ -89,10 +92,21 @@ module _ (last seats : ℕ) (seat_at tid_at log : ℕ → ℕ) (role : ℕ → R
 
   -- by the word that is stored
   pub recorded_stood : (s : SeatWord) → IsSeatWord s → MayStand s v → IsRecorded last (but seat_at conn (seat_word s)) tid_at log role (but know i (knowledge_of (stood s conn v)))
-  recorded_stood seat.Idle form may = recorded_ended may
+  recorded_stood seat.Idle form may = recorded_ended may.0
   recorded_stood seat.Starting form may = recorded_staged seat.Starting form (inl (subst (λ s. IsStage s (txns (h.account conn))) may (stage_is last seats seat_at tid_at log role know h d i conn mine v is)))
   recorded_stood (seat.Snapshot snapshot) form may =
       recorded_staged (seat.Snapshot snapshot) form (subst (λ (a : List Entry). WhenOpen (txns a) (λ t. t.snapshot ≡ snapshot.0)) (sym (account_is last seats seat_at tid_at log role know h d i conn mine v is)) may.1)
+
+-- the seat is registered then, or owns no page
+still_holds : (s : SeatWord) (v : View) → MayStand s v → ((row : Row) → Among row v.pages → IsRegistered v.stage) → (row : Row) → Among row v.pages → IsRegistered s
+still_holds seat.Idle v may was row there = subst (λ xs. Among row xs) may.1 there
+still_holds seat.Starting v may was row there = absurd (subst IsRegistered may (was row there))
+still_holds (seat.Snapshot snapshot) v may was row there = tt
+
+stage_stood : (s : SeatWord) (conn : ℕ) (v : View) → (stood s conn v).stage ≡ s
+stage_stood seat.Idle conn v = refl
+stage_stood seat.Starting conn v = refl
+stage_stood (seat.Snapshot snapshot) conn v = refl
 
 -- of the view what is known of transactions alone changes
 same_rest : {A : Type 0} (f : View → A) (v : View) (conn : ℕ) (s : SeatWord) → f (stood seat.Idle conn v) ≡ f v → f (with_stage seat.Starting v) ≡ f v → ((c : ℕ) → f (with_stage (seat.Snapshot (record { 0 = c })) v) ≡ f v) → f (stood s conn v) ≡ f v
@@ -112,9 +126,25 @@ store_seat_kept y words views id s v h at mine form may =
     (known_kept (λ x. x.pages) views id v (stood s.word s.conn v) at (same_rest (λ x. x.pages) v s.conn s.word refl refl (λ c. refl)))
     (known_kept (λ x. x.claimed) views id v (stood s.word s.conn v) at (same_rest (λ x. x.claimed) v s.conn s.word refl refl (λ c. refl)))
     (known_kept (λ x. x.loaded) views id v (stood s.word s.conn v) at (same_rest (λ x. x.loaded) v s.conn s.word refl refl (λ c. refl)))
+    (holders_along _ _ _ _ (known_set (λ x. x.stage) views id v (stood s.word s.conn v) at ∙ ap (λ x. but (known (λ z. z.stage) views) id x) (stage_stood s.word s.conn v))
+    (known_kept (λ x. x.pages) views id v (stood s.word s.conn v) at (same_rest (λ x. x.pages) v s.conn s.word refl refl (λ c. refl)))
+    (holders_stage (known (λ x. x.stage) views) (known (λ x. x.pages) views) id s.word
+    (λ row there. still_holds s.word v may
+    (λ r known_row. subst IsRegistered (known_is (λ x. x.stage) views id v at) (h.held.registered id r (subst (Among r) (sym (known_is (λ x. x.pages) views id v at)) known_row)))
+    row (subst (Among row) (known_is (λ x. x.pages) views id v at) there))
+    h.held))
     (recorded_along y.transactions _ _ _ _ _ _ _ _ _ _ step.seat step.tid step.log roles (known_set knowledge_of views id v (stood s.word s.conn v) at)
     (recorded_stood y.transactions y.seats (seat_words y words) (tid_words y words) (log_words y words) (known (λ x. x.role) views) (known knowledge_of views) h.recorded h.dealt id s.conn mine_is v (known_is knowledge_of views id v at) s.word form may))
 
 pub store_seat_allows : (y : Layout) (slots id : ℕ) (s : SeatStore) (v : View) → v.role ≡ Connection s.conn → IsSeatWord s.word → MayStand s.word v
     → Allows (λ (t : TableState Unit View). Holds y t.words t.views) slots id (bare v) (seat_at y s.conn) (λ _. seat_word s.word) (λ _ after. StoresSeat s v after)
-store_seat_allows y slots id s v mine form may t h len at below = (stood s.word s.conn v, keeps, tt, store_seat_kept y t.words t.views id s v h at mine form may, refl)
+store_seat_allows y slots id s v mine form may t h len at below = (
+  stood s.word s.conn v,
+  keeps,
+  tt,
+  store_seat_kept y t.words t.views id s v h at mine form may,
+  (
+    λ idle. sym (known_is (λ x. x.pages) t.views id v at) ∙ idle_none (known (λ x. x.stage) t.views) (known (λ x. x.pages) t.views) h.held id (known_is (λ x. x.stage) t.views id v at ∙ idle),
+    refl,
+  ),
+)

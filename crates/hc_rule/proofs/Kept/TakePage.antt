@@ -18,6 +18,7 @@ use Rattle.hc_rule.specs.declared.view.View.{View}
 use Rattle.hc_rule.specs.declared.view.Role.TheVariants.{Connection}
 use Rattle.hc_rule.specs.Views.{known, bare}
 use Rattle.hc_rule.specs.States.{Free, Owned}
+use Rattle.hc_rule.specs.Holders.{IsRegistered}
 use Rattle.hc_rule.specs.Rule.{Holds}
 use Rattle.hc_rule.specs.Kinds.LoadPage.{with_found}
 use Rattle.hc_rule.specs.Hands.{row_of}
@@ -29,7 +30,7 @@ use Rattle.hc_rule.proofs.Kept.LoadPage.{found_kept}
 
 -- the page was free
 module _ (y : Layout) (words : List ℕ) (views : List View) (id p conn next : ℕ) (v : View) (h : Holds y words views)
-    (there : HasPage y p) (at : get_elem? views id ≡ some v) (mine : v.role ≡ Connection conn) (short : next < 2 ^ 32) (none : page_words y words p ≡ 0) where
+    (there : HasPage y p) (at : get_elem? views id ≡ some v) (mine : v.role ≡ Connection conn) (registered : IsRegistered v.stage) (short : next < 2 ^ 32) (none : page_words y words p ≡ 0) where
   free : h.state p ≡ Free
   free = free_is (h.state p) (sym (h.stated.word p) ∙ none)
 
@@ -50,7 +51,7 @@ module _ (y : Layout) (words : List ℕ) (views : List View) (id p conn next : �
       let role = known (λ x. x.role) views in
       let hand = known (λ x. x.pages) views in
       let claims = known (λ x. x.claimed) views in
-      holds_after y words _ views id v (with_page p next (rows y words p) v) h at (length-set words (page_at y p) (page_word (word.Owned conn next))) refl refl (record { seat = step.seat; tid = step.tid; log = step.log }) refl
+      holds_after y words _ views id v (with_page p next (rows y words p) v) h at (length-set words (page_at y p) (page_word (word.Owned conn next))) refl refl (record { seat = step.seat; tid = step.tid; log = step.log }) registered refl
       (but h.state p (Owned conn next)) _ _ _ step.page step.map step.row (row_of p next (rows y words p) ∷ known (λ x. x.pages) views id) _ (λ is. ap (λ xs. row_of p next (rows y words p) ∷ xs) (sym is)) claimed
       (stated_take h.state (page_words y words) (map_words y words) role hand claims h.stated id p conn next (rows y words p) free role_is small short)
       (reached_take h.state (page_words y words) (map_words y words) role hand claims h.stated id p conn next (rows y words p) free role_is small short (rows y words) (known (λ x. x.loaded) views) h.reached refl)
@@ -61,9 +62,9 @@ module _ (y : Layout) (words : List ℕ) (views : List View) (id p conn next : �
       let was = h.stated.held id row (subst (Among row) (sym (known_is (λ x. x.pages) views id v at)) known_row) in
       free_not_owned was.0 (h.state row.page.0) (ap h.state is ∙ free) (is_owned (h.state row.page.0) was.0 row.next was.2)
 
-pub take_page_allows : (y : Layout) (slots id p conn next : ℕ) (v : View) → HasPage y p → v.role ≡ Connection conn → next < 2 ^ 32
+pub take_page_allows : (y : Layout) (slots id p conn next : ℕ) (v : View) → HasPage y p → v.role ≡ Connection conn → IsRegistered v.stage → next < 2 ^ 32
     → Allows (λ (s : TableState Unit View). Holds y s.words s.views) slots id (bare v) (page_at y p) (λ n. either (eqb n 0) (page_word (word.Owned conn next)) n) (λ n after. TakesPage (page_at y p) p next v n after)
-take_page_allows y slots id p conn next v there mine short s h len at below =
+take_page_allows y slots id p conn next v there mine registered short s h len at below =
     let place = page_at y p in
     let is : page_words y s.words p ≡ get_or s.words (page_at y p) 0 = words_are (page_at y) 1 (y.pages + 1) s.words p there.0 (omega (arith, there)) in
     ⊎_elim
@@ -72,8 +73,8 @@ take_page_allows y slots id p conn next v there mine short s h len at below =
       keeps,
       tt,
       subst (λ b. Holds y (set s.words (page_at y p) (either b (page_word (word.Owned conn next)) (get_or s.words (page_at y p) 0))) (set s.views id (with_page p next (rows y s.words p) v))) (sym (eq-eqb (get_or s.words (page_at y p) 0) 0 hit))
-          (take_kept y s.words s.views id p conn next v h there at mine short (is ∙ hit)),
-      inl (hit, (was_elsewhere y s.words s.views id p conn next v h there at mine short (is ∙ hit), rows y s.words p, row_size y s.words p h.sized there, refl)),
+          (take_kept y s.words s.views id p conn next v h there at mine registered short (is ∙ hit)),
+      inl (hit, (was_elsewhere y s.words s.views id p conn next v h there at mine registered short (is ∙ hit), rows y s.words p, row_size y s.words p h.sized there, refl)),
     ))
     (λ (miss : get_or s.words (page_at y p) 0 ≢ 0). (
       with_found place (get_or s.words (page_at y p) 0) v,

@@ -40,7 +40,7 @@ use Rattle.hc_rule.specs.Recorded.{IsRecorded, txns_of}
 use Rattle.hc_rule.specs.Rule.{Holds}
 use Rattle.hc_rule.specs.Kinds.LoadLog.{own_txns}
 use Rattle.hc_rule.specs.Kinds.TidWord.{with_seen, saw, LoadsTid, FollowsSeen, Drawing, MayDraw, drew, DrawsTid, DrewTid, IsRolledBack, MaySay, TidStore, MayStoreTid, said, StoresTid}
-use Rattle.hc_rule.proofs.Along.{holds_with, recorded_along}
+use Rattle.hc_rule.proofs.Along.{holds_with, held_along, recorded_along}
 use Rattle.hc_rule.proofs.Entering.{Goes, AllGo, seen_on, staged_changed, own_changed, recorded_entered}
 use Rattle.hc_rule.proofs.LogSteps.{newest_of, running_id}
 use Rattle.hc_rule.proofs.OwnSeat.{field_is, account_is, seen_within, words_old, places_old, own_same, stage_is}
@@ -326,11 +326,11 @@ load_is : (y : Layout) (words : List ℕ) (views : List View) (h : Holds y words
 load_is y words views h t there = sym (h.recorded.worded.word t) ∙ words_are (tid_at y) 1 (y.transactions + 1) words t there.0 (omega (arith, there))
 
 leaves_rest : (id : ℕ) (f : TidWord) (v : View) → LeavesRest v (saw id f v)
-leaves_rest id tid.Empty v = (refl, refl, refl, refl)
-leaves_rest id (tid.Live c o) v = (refl, refl, refl, refl)
-leaves_rest id (tid.Validating c o n) v = (refl, refl, refl, refl)
-leaves_rest id (tid.Committed c o n) v = (refl, refl, refl, refl)
-leaves_rest id (tid.RolledBack c o) v = (refl, refl, refl, refl)
+leaves_rest id tid.Empty v = (refl, refl, refl, refl, refl)
+leaves_rest id (tid.Live c o) v = (refl, refl, refl, refl, refl)
+leaves_rest id (tid.Validating c o n) v = (refl, refl, refl, refl, refl)
+leaves_rest id (tid.Committed c o n) v = (refl, refl, refl, refl, refl)
+leaves_rest id (tid.RolledBack c o) v = (refl, refl, refl, refl, refl)
 
 -- the rule where the seat notes what it found
 saw_kept : (y : Layout) (words : List ℕ) (views : List View) (h : Holds y words views) (id t conn : ℕ) (v : View) → get_elem? views id ≡ some v → v.role ≡ Connection conn → Holds y words (set views id (saw t (h.recorded.form t) v))
@@ -355,6 +355,7 @@ word_kept y words views id t n v w h at there leaves recorded =
     let roles = known_kept (λ x. x.role) views id v w at leaves.0 in
     holds_with y words _ views (set views id w) h (length-set words (tid_at y t) n) step.page step.map step.row
     roles (known_kept (λ x. x.pages) views id v w at leaves.1) (known_kept (λ x. x.claimed) views id v w at leaves.2) (known_kept (λ x. x.loaded) views id v w at leaves.3)
+    (held_along views (set views id w) (known_kept (λ x. x.stage) views id v w at leaves.4) (known_kept (λ x. x.pages) views id v w at leaves.1) h.held)
     (recorded_along y.transactions _ _ _ _ _ _ _ _ _ _ step.seat step.tid step.log roles (known_set knowledge_of views id v w at) recorded)
 
 -- the exchange that draws an id
@@ -371,7 +372,7 @@ draw_allows y slots id d v there mine may s h len at below =
       keeps,
       tt,
       subst (λ b. Holds y (set s.words (tid_at y d.id) (either b (tid_word (tid.Live d.conn d.ord)) (get_or s.words (tid_at y d.id) 0))) (set s.views id (drew d v))) (sym (eq-eqb (get_or s.words (tid_at y d.id) 0) 0 hit))
-          (word_kept y s.words s.views id d.id (tid_word (tid.Live d.conn d.ord)) v (drew d v) h at there (refl, refl, refl, refl)
+          (word_kept y s.words s.views id d.id (tid_word (tid.Live d.conn d.ord)) v (drew d v) h at there (refl, refl, refl, refl, refl)
           (recorded_drew y.transactions y.seats (seat_words y s.words) (tid_words y s.words) (log_words y s.words) (known (λ x. x.role) s.views) (known knowledge_of s.views) h.recorded h.dealt id d.conn mine_is v (known_is knowledge_of s.views id v at)
           d.id d.ord there (let seats = h.dealt.there id d.conn mine_is in let few = h.layout.seats in omega (arith, seats, few)) may (h.recorded.worded.word d.id ∙ (is ∙ hit)))),
       inl (hit, refl),
@@ -393,7 +394,7 @@ store_tid_allows y slots id t v there mine may s h len at below = (
   said t.word v,
   keeps,
   tt,
-  word_kept y s.words s.views id t.id (tid_word t.word) v (said t.word v) h at there (refl, refl, refl, refl)
+  word_kept y s.words s.views id t.id (tid_word t.word) v (said t.word v) h at there (refl, refl, refl, refl, refl)
       (recorded_said y.transactions y.seats (seat_words y s.words) (tid_words y s.words) (log_words y s.words) (known (λ x. x.role) s.views) (known knowledge_of s.views) h.recorded h.dealt id t.conn
       (known_is (λ x. x.role) s.views id v at ∙ mine) v (known_is knowledge_of s.views id v at) t.id t.word may.own may.says may.stays may.form),
   refl,

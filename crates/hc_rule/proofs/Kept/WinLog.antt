@@ -40,7 +40,7 @@ use Rattle.hc_rule.specs.Rule.{Holds}
 use Rattle.hc_rule.specs.Kinds.LoadLog.{own_txns, with_entry, later, with_place}
 use Rattle.hc_rule.specs.Kinds.TidWord.{IsRolledBack}
 use Rattle.hc_rule.specs.Kinds.WinLog.{Winning, IsReady, MayWin, decided, lost, won_by, lost_to, WinsLog}
-use Rattle.hc_rule.proofs.Along.{holds_with, recorded_along}
+use Rattle.hc_rule.proofs.Along.{holds_with, held_along, recorded_along}
 use Rattle.hc_rule.proofs.Entering.{Goes, AllGo, seen_on, staged_changed, own_changed, recorded_entered}
 use Rattle.hc_rule.proofs.Laying.{but_again}
 use Rattle.hc_rule.proofs.LogSteps.{newest_of, running_id, size_within, stage_changed, logged_changed, worded_changed, all_changed}
@@ -172,6 +172,7 @@ won_kept y words views id w v h at there recorded =
     let roles = known_kept (λ x. x.role) views id v (won_by w v) at refl in
     holds_with y words _ views (set views id (won_by w v)) h (length-set words (log_at y w.c) w.id) step.page step.map step.row
     roles (known_kept (λ x. x.pages) views id v (won_by w v) at refl) (known_kept (λ x. x.claimed) views id v (won_by w v) at refl) (known_kept (λ x. x.loaded) views id v (won_by w v) at refl)
+    (held_along views (set views id (won_by w v)) (known_kept (λ x. x.stage) views id v (won_by w v) at refl) (known_kept (λ x. x.pages) views id v (won_by w v) at refl) h.held)
     (recorded_along y.transactions _ _ _ _ _ _ _ _ _ _ step.seat step.tid step.log roles (known_set knowledge_of views id v (won_by w v) at) recorded)
 
 pub win_log_allows : (y : Layout) (slots id : ℕ) (w : Winning) (v : View) → HasPlace y w.c → v.role ≡ Connection w.conn → w.last ≡ y.transactions → MayWin w v
@@ -203,7 +204,7 @@ win_log_allows y slots id w v there mine last may s h len at below =
       tt,
       subst (λ b. Holds y (set s.words (log_at y w.c) (either b w.id (get_or s.words (log_at y w.c) 0))) (set s.views id (lost_to w (get_or s.words (log_at y w.c) 0) v))) (sym (ne_eqb (get_or s.words (log_at y w.c) 0) 0 miss))
           (subst (λ ws. Holds y ws (set s.views id (lost_to w (get_or s.words (log_at y w.c) 0) v))) (sym (set-get_or s.words (log_at y w.c) 0))
-          (knowledge_kept y s.words s.views id v (lost_to w (get_or s.words (log_at y w.c) 0) v) at h (refl, refl, refl, refl)
+          (knowledge_kept y s.words s.views id v (lost_to w (get_or s.words (log_at y w.c) 0) v) at h (refl, refl, refl, refl, refl)
           (recorded_lost y.transactions y.seats (seat_words y s.words) (tid_words y s.words) (log_words y s.words) (known (λ x. x.role) s.views) (known knowledge_of s.views) h.recorded h.dealt id w.conn mine_is v is w (get_or s.words (log_at y w.c) 0) refl may here miss))),
       (omega (arith, few, last), inr (miss, omega (arith, n_within, here, last), refl)),
     ))

@@ -19,9 +19,9 @@ abbrev pub with_stage : SeatWord → View → View
 with_stage word v = record v { stage = word }
 
 -- what is asked of the seat: to be starting it is idle, the snapshot is that of the transaction which has just begun, and a
--- transaction ends that is committed or has nothing in its write set
+-- transaction ends that is committed or has nothing in its write set, and the seat owns no page then
 abbrev pub MayStand : SeatWord → View → Type 0
-MayStand seat.Idle v = WhenOpen (own_txns v) (λ t. (t.place ≢ 0) ⊎ (t.write_set ≡ []))
+MayStand seat.Idle v = WhenOpen (own_txns v) (λ t. (t.place ≢ 0) ⊎ (t.write_set ≡ [])) × (v.pages ≡ [])
 MayStand seat.Starting v = v.stage ≡ seat.Idle
 MayStand (seat.Snapshot snapshot) v = (v.stage ≡ seat.Starting) × WhenOpen (own_txns v) (λ t. t.snapshot ≡ snapshot.0)
 
@@ -36,5 +36,9 @@ pub record SeatStore : Type 0 where
   pub word : SeatWord
   pub conn : ℕ
 
+-- an idle seat owns no page, by the rule
+abbrev pub OwnsNoneIdle : View → Type 0
+OwnsNoneIdle v = v.stage ≡ seat.Idle → v.pages ≡ []
+
 abbrev pub StoresSeat : SeatStore → View → Me Unit View → Type 0
-StoresSeat s v after = after ≡ bare (stood s.word s.conn v)
+StoresSeat s v after = OwnsNoneIdle v × (after ≡ bare (stood s.word s.conn v))

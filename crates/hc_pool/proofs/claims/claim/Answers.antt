@@ -6,7 +6,7 @@ use Rattle.hc_rule.specs.declared.view.View.{View}
 use Rattle.hc_steps.specs.declared.grip.Grip.{Grip}
 use Rattle.hc_steps.specs.Same.{IsSame}
 use Rattle.hc_pool.specs.Claiming.{LooksInTurn, TakesInTurn, Tried, in_turn}
-use Rattle.hc_pool.proofs.Finds.{looks_none, looks_next, finds_round, takes_claims}
+use Rattle.hc_pool.proofs.Finds.{looks_none, looks_next, finds_round, takes_claims, looks_registered, takes_registered}
 use Rattle.hc_pool.proofs.claims.claim.Goals as goal
 
 -- one grip after another
@@ -66,3 +66,13 @@ returns-clause-cause c =
 
 pub returns-clause-round : goal.returns-clause-round
 returns-clause-round c = looks c
+
+-- the seat is registered all the while
+pub try_claim-requires-clause-registered : goal.try_claim-requires-clause-registered
+try_claim-requires-clause-registered c = looks_registered c.args.grip.now.layout c.hint-hint.result.0 c.turns.looked c.args.grip.now.seat.me.0 c.turns.grip.seat.me.0 c.turns.invariant.looks c.requires.registered
+
+pub returns-then-try_claim-clause-registered : goal.returns-then-try_claim-clause-registered
+returns-then-try_claim-clause-registered c = takes_registered c.args.grip.now.layout c.args.grip.now.hint c.page_in_turn.result c.args.grip.now.seat.me.0 c.begin_at.new.self.seat.me.0 (takes c) c.requires.registered
+
+pub returns-clause-registered : goal.returns-clause-registered
+returns-clause-registered c = looks_registered c.args.grip.now.layout c.args.grip.now.hint c.args.grip.now.layout.pages c.args.grip.now.seat.me.0 c.turns.grip.seat.me.0 (looks c) c.requires.registered

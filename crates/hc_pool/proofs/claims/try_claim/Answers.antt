@@ -1,7 +1,10 @@
 -- What was found is in the view.
-use Rattle.std.proofs.Common.{subst, ap}
+use Rattle.std.proofs.Common.{sym, subst, ap}
+use Rattle.atomic_table.specs.Table.{Me}
 use Rattle.hc_base.specs.Words.{page_word}
 use Rattle.hc_rows.specs.Places.{page_at}
+use Rattle.hc_rule.specs.Holders.{IsRegistered}
+use Rattle.hc_rule.specs.declared.view.View.{View}
 use Rattle.hc_rule.specs.Kinds.TakePage.{TookPage}
 use Rattle.hc_pool.proofs.Finds.{tried_take, tried_load, free_form}
 use Rattle.hc_pool.proofs.claims.try_claim.Goals as goal
@@ -16,3 +19,6 @@ returns-in_default c = record {
   tried = tried_load c.args.grip.now.layout c.args.p.0 (page_word c.load_page.result) c.args.grip.now.seat.me.0 c.load_page.new.self.seat.me c.load_page.ensures.seat (λ none. c.in_default.not-Free (free_form c.load_page.result none));
   same = c.load_page.ensures.same;
 }
+
+pub take_page-requires-clause-registered : goal.take_page-requires-clause-registered
+take_page-requires-clause-registered c = subst (λ (m : Me Unit View). IsRegistered m.0.stage) (sym c.load_page.ensures.seat) c.requires.registered

@@ -38,7 +38,7 @@ compare_exchange-requires g c =
           (subst (λ w. IsAllowed slots id y (bare v) (page_at y p) w g.N.Taking.page g.N.Taking.next) (sym c.pack-new.ensures)
           (subst (λ q. IsAllowed slots id y (bare v) (page_at y p) new q g.N.Taking.next) (sym c.requires.picked.0)
           (subst (λ n. IsAllowed slots id y (bare v) (page_at y p) new p n) (sym c.requires.picked.1)
-          (take_page_allows y slots id p c.args.conn c.args.next v c.requires.page c.requires.connected (omega (arith, c.ranges.next.fits)))))))),
+          (take_page_allows y slots id p c.args.conn c.args.next v c.requires.page c.requires.connected c.requires.registered (omega (arith, c.ranges.next.fits)))))))),
     )
 
 pub returns-clause-told : goal.returns-clause-told
