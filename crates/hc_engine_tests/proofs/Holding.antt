@@ -1,23 +1,23 @@
--- A page is claimed, written and given back, and the seat's other rows are kept.
-use Rattle.std.proofs.Common.{◌≡◌, ◌≢◌, ◌∙◌, refl, sym, ap, subst, inl, inr, ⊎_elim, ℕ, ◌<◌, List, [], ◌∷◌, cond, eq-eqb, ne_eqb, get_or, arith}
+-- A page is claimed, written and given back, and the seat has what it had.
+use Rattle.std.proofs.Common.{◌≡◌, ◌≢◌, ◌∙◌, refl, sym, ap, subst, inl, inr, ℕ, ◌<◌, List, [], ◌∷◌, cond, eqb, eq-eqb, ne_eqb, get_or, arith}
 use Rattle.std.proofs.lemmas.List.{get_or-set_same}
 use Rattle.hc_base.specs.Lookup.{Among}
 use Rattle.hc_rule.specs.declared.view.View.{View}
 use Rattle.hc_rule.specs.declared.view.Row.{Row}
-use Rattle.hc_rule.specs.Hands.{row_of, changed, set_word}
+use Rattle.hc_rule.specs.Hands.{row_of, changed, set_word, without_page}
 use Rattle.hc_rule.specs.Kinds.Rows.{with_word}
 use Rattle.hc_rule.specs.Kinds.StorePage.{without}
-use Rattle.hc_rule.proofs.PageStates.{left_among}
 use Rattle.hc_pool.specs.Claiming.{Claims}
+use Rattle.hc_engine_tests.specs.Holding.{KeepsRest}
 
--- a row of another page is left as it was
-other_among : (p : ℕ) (f : Row → Row) (x : Row) (xs : List Row) → Among x xs → x.page.0 ≢ p → Among x (changed p f xs)
-other_among p f x [] there differ = absurd there
-other_among p f x (z ∷ zs) there differ =
-    ⊎_elim
-    (λ (is : x ≡ z). inl (sym (ap (λ b. cond b (f z) z) (ne_eqb z.page.0 p (λ same. differ (ap (λ (r : Row). r.page.0) is ∙ same))) ∙ sym is)))
-    (λ later. inr (other_among p f x zs later differ))
-    there
+-- nothing of a page is changed or taken away where it is not
+apart : (p : ℕ) (f : Row → Row) (xs : List Row) → ((row : Row) → Among row xs → row.page.0 ≢ p) → without_page p (changed p f xs) ≡ xs
+apart p f [] differ = refl
+apart p f (z ∷ zs) differ =
+    let no : eqb z.page.0 p ≡ _ = ne_eqb z.page.0 p (differ z (inl refl)) in
+    ap (λ b. without_page p (cond b (f z) z ∷ changed p f zs)) no
+    ∙ (ap (λ b. cond b (without_page p (changed p f zs)) (z ∷ without_page p (changed p f zs))) no
+    ∙ ap (λ ys. z ∷ ys) (apart p f zs (λ row there. differ row (inr there))))
 
 module _ (p word n : ℕ) (v w u : View) (claims : Claims p v w) (stored : u ≡ with_word p word n w) where
   rows_are : u.pages ≡ changed p (set_word word n) (row_of p 0 claims.1 ∷ v.pages)
@@ -33,10 +33,15 @@ module _ (p word n : ℕ) (v w u : View) (claims : Claims p v w) (stored : u ≡
     get_or-set_same claims.1 word n 0 (omega (arith, within, claims.2)),
   )
 
-  -- and each row that it had
-  pub was_kept : (row : Row) → Among row v.pages → Among row u.pages
-  was_kept row there = subst (λ xs. Among row xs) (sym rows_are) (inr (other_among p (set_word word n) row v.pages there (claims.0 row there)))
-
-  -- also where the page is given back
-  pub is_left : (t : View) → ((row : Row) → Among row u.pages → Among row t.pages) → (row : Row) → Among row v.pages → Among row (without p t).pages
-  is_left t kept row there = left_among p row t.pages (kept row (was_kept row there)) (λ same. claims.0 row there (sym same))
+  -- once the page is given back, all is as it was
+  pub given_back : (t x : View) → KeepsRest u t → x ≡ without p t → KeepsRest v x
+  given_back t x kept given = record {
+    pages =
+        ap (λ (z : View). z.pages) given
+        ∙ (ap (λ xs. without_page p xs) (kept.pages ∙ rows_are)
+        ∙ (ap (λ b. without_page p (cond b (set_word word n (row_of p 0 claims.1)) (row_of p 0 claims.1) ∷ changed p (set_word word n) v.pages)) (eq-eqb p p refl)
+        ∙ (ap (λ b. cond b (without_page p (changed p (set_word word n) v.pages)) (set_word word n (row_of p 0 claims.1) ∷ without_page p (changed p (set_word word n) v.pages))) (eq-eqb p p refl)
+        ∙ apart p (set_word word n) v.pages claims.0)));
+    stage = ap (λ (z : View). z.stage) given ∙ (kept.stage ∙ (ap (λ (z : View). z.stage) stored ∙ ap (λ (z : View). z.stage) claims.4));
+    account = ap (λ (z : View). z.account) given ∙ (kept.account ∙ (ap (λ (z : View). z.account) stored ∙ ap (λ (z : View). z.account) claims.4));
+  }

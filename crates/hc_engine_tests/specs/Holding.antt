@@ -1,7 +1,15 @@
--- Rows that a seat keeps while it holds other pages.
-use Rattle.hc_base.specs.Lookup.{Among}
+-- What a seat has as before once it has given back what it claimed.
+use Rattle.std.specs.Prelude.{◌≡◌, Bool, true, List, [], ◌∷◌}
+use Rattle.hc_core.specs.Account.{Txn}
 use Rattle.hc_rule.specs.declared.view.View.{View}
-use Rattle.hc_rule.specs.declared.view.Row.{Row}
 
-abbrev pub KeepsRows : View → View → Type 0
-KeepsRows v w = (row : Row) → Among row v.pages → Among row w.pages
+-- its pages with their rows, its stage and its account
+pub record KeepsRest (v w : View) : Type 0 where
+  pub pages : w.pages ≡ v.pages
+  pub stage : w.stage ≡ v.stage
+  pub account : w.account ≡ v.account
+
+-- whether the newest of these transactions has ended, or there is none
+abbrev pub has_ended : List Txn → Bool
+has_ended [] = true
+has_ended (t ∷ ts) = t.ended

@@ -2,8 +2,10 @@
 #![tactic(auto)]
 
 mod by_hand;
+mod commits;
 mod hand_pages;
 mod leaves;
+mod log;
 mod plans;
 mod pool;
 mod room;

@@ -1,5 +1,8 @@
 //! Pages of a region are claimed and given back.
 ghost use Rattle.std.specs.Prelude.{◌≡◌};
+ghost use Rattle.hc_rows.specs.Places.{HasPage};
+ghost use Rattle.hc_rule.specs.Holders.{IsRegistered};
+ghost use Rattle.hc_steps.specs.Same.{IsSame};
 
 use hc_base::{Cid, Full, Page, PageWord, Phys};
 use hc_pool::{claim, give_back};
@@ -7,7 +10,9 @@ use hc_steps::Grip;
 
 // Claims a page, and then another one; where there is none, the first goes back.
 fn claim_twice(grip: &mut Grip<'_>, floor: Cid) -> Result<(Phys, Result<Phys, Full>), Full>
-    ensures { grip.new.layout ≡ grip.old.layout }
+    requires registered { IsRegistered grip.old.seat.me.0.stage }
+    ensures registered { IsRegistered grip.new.seat.me.0.stage }
+    ensures layout { grip.new.layout ≡ grip.old.layout }
 {
     let p = claim(grip, floor)?;
     match claim(grip, floor) {
@@ -21,7 +26,9 @@ fn claim_twice(grip: &mut Grip<'_>, floor: Cid) -> Result<(Phys, Result<Phys, Fu
 
 // Claims a page and stores its last word; the word and that of the whole row are loaded again.
 fn write_and_read(grip: &mut Grip<'_>, word: u64) -> Result<(u64, u64), Full>
-    ensures { grip.new.layout ≡ grip.old.layout }
+    requires registered { IsRegistered grip.old.seat.me.0.stage }
+    ensures registered { IsRegistered grip.new.seat.me.0.stage }
+    ensures layout { grip.new.layout ≡ grip.old.layout }
 {
     let p = claim(grip, Cid(0))?;
     grip.store_row(p, 255, word);
@@ -31,7 +38,10 @@ fn write_and_read(grip: &mut Grip<'_>, word: u64) -> Result<(u64, u64), Full>
 }
 
 // Claims a page, writes its row, reads it again and gives the page back. A page that was given back is claimed next.
-fn rewrite(grip: &mut Grip<'_>, page: &Page, out: &mut Page) -> Result<Phys, Full> {
+fn rewrite(grip: &mut Grip<'_>, page: &Page, out: &mut Page) -> Result<Phys, Full>
+    requires registered { IsRegistered grip.old.seat.me.0.stage }
+    ensures registered { IsRegistered grip.new.seat.me.0.stage }
+{
     let p = claim(grip, Cid(0))?;
     grip.write_page(p, page);
     grip.read_page(p, out);
@@ -42,16 +52,28 @@ fn rewrite(grip: &mut Grip<'_>, page: &Page, out: &mut Page) -> Result<Phys, Ful
 // Claims a page, names another next one, and loads the page's word.
 fn thread_page(grip: &mut Grip<'_>, seat: u8, next: u32) -> Result<PageWord, Full>
     requires seat { seat ≡ grip.old.conn }
+    requires registered { IsRegistered grip.old.seat.me.0.stage }
 {
     let p = claim(grip, Cid(0))?;
     grip.store_page(p, PageWord::Owned { seat, next });
     Ok(grip.load_page(p))
 }
 
+// Loads the word of a page.
+fn word_of(grip: &mut Grip<'_>, p: Phys) -> PageWord
+    requires page { HasPage grip.old.layout p.0 }
+    requires registered { IsRegistered grip.old.seat.me.0.stage }
+    ensures registered { IsRegistered grip.new.seat.me.0.stage }
+    ensures same { IsSame grip.old grip.new }
+{
+    grip.load_page(p)
+}
+
 #[cfg(test)]
 mod tests {
     use super::*;
     use hc_base::Logical;
+    use hc_pool::register;
     use hc_rows::Layout;
     use hc_steps::Region;
     use std::test::Fail;
@@ -78,21 +100,22 @@ mod tests {
         };
         let (region, mut dealer) = Region::make(rt.alloc(), layout)?;
         let mut grip = region.deal(&mut dealer);
+        register(&mut grip);
         assert_eq!(rt; claim(&mut grip, Cid(0)), Ok(Phys(3)));
         assert_eq!(rt;
             claim_twice(&mut grip, Cid(0)),
             Ok((Phys(4), Err(full(4, 0))))
         );
-        assert_eq!(rt; grip.load_page(Phys(3)), owned(0));
-        assert_eq!(rt; grip.load_page(Phys(4)), PageWord::Free);
+        assert_eq!(rt; word_of(&mut grip, Phys(3)), owned(0));
+        assert_eq!(rt; word_of(&mut grip, Phys(4)), PageWord::Free);
         assert_eq!(rt;
             claim_twice(&mut grip, Cid(7)),
             Ok((Phys(4), Err(full(4, 7))))
         );
         assert_eq!(rt; claim(&mut grip, Cid(0)), Ok(Phys(4)));
         assert_eq!(rt; claim(&mut grip, Cid(9)), Err(full(4, 9)));
-        assert_eq!(rt; grip.load_page(Phys(3)), owned(0));
-        assert_eq!(rt; grip.load_page(Phys(4)), owned(0));
+        assert_eq!(rt; word_of(&mut grip, Phys(3)), owned(0));
+        assert_eq!(rt; word_of(&mut grip, Phys(4)), owned(0));
         Ok(())
     }
 
@@ -106,9 +129,10 @@ mod tests {
         };
         let (region, mut dealer) = Region::make(rt.alloc(), layout)?;
         let mut grip = region.deal(&mut dealer);
+        register(&mut grip);
         assert_eq!(rt; claim(&mut grip, Cid(0)), Err(full(2, 0)));
-        assert_eq!(rt; grip.load_page(Phys(1)), PageWord::Mapped(Logical(1)));
-        assert_eq!(rt; grip.load_page(Phys(2)), PageWord::Mapped(Logical(2)));
+        assert_eq!(rt; word_of(&mut grip, Phys(1)), PageWord::Mapped(Logical(1)));
+        assert_eq!(rt; word_of(&mut grip, Phys(2)), PageWord::Mapped(Logical(2)));
         assert_eq!(rt; grip.hint(), Phys(1));
         Ok(())
     }
@@ -126,6 +150,8 @@ mod tests {
         let (region, mut dealer) = Region::make(rt.alloc(), layout)?;
         let mut one = region.deal(&mut dealer);
         let mut two = region.deal(&mut dealer);
+        register(&mut one);
+        register(&mut two);
         assert_eq!(rt; claim_twice(&mut two, Cid(0)), Ok((Phys(5), Ok(Phys(6)))));
         assert_eq!(rt; claim_twice(&mut two, Cid(0)), Ok((Phys(7), Ok(Phys(8)))));
         one.begin_at(Phys(7));
@@ -138,11 +164,11 @@ mod tests {
         Ok(())
     }
 
-    // By hand: of five connections each begins a fifth of the pages further, 13.
+    // By hand: of five connections each begins a fifth of the pages further, rounded down.
     #[test]
     fn connections_begin_evenly_spread(rt: HostRuntime) -> Result<(), Fail> {
         let layout = Layout {
-            pages: 66,
+            pages: 7,
             numbers: 2,
             transactions: 1,
             seats: 5,
@@ -160,7 +186,7 @@ mod tests {
             four.hint().0,
             five.hint().0,
         ];
-        assert_eq!(rt; hints, [1, 14, 27, 40, 53]);
+        assert_eq!(rt; hints, [1, 2, 3, 5, 6]);
         Ok(())
     }
 
@@ -178,6 +204,7 @@ mod tests {
             match Region::make(rt.alloc(), layout) {
                 Ok((region, mut dealer)) => {
                     let mut grip = region.deal(&mut dealer);
+                    register(&mut grip);
                     assert_eq!(rt; claim(&mut grip, Cid(0)), Ok(Phys(3)));
                 }
                 Err(_) => failed = failed.saturating_add(1),
@@ -197,6 +224,7 @@ mod tests {
         };
         let (region, mut dealer) = Region::make(rt.alloc(), layout)?;
         let mut grip = region.deal(&mut dealer);
+        register(&mut grip);
         assert_eq!(rt;
             write_and_read(&mut grip, u64::MAX),
             Ok((u64::MAX, u64::MAX))
@@ -219,6 +247,7 @@ mod tests {
         };
         let (region, mut dealer) = Region::make(rt.alloc(), layout)?;
         let mut grip = region.deal(&mut dealer);
+        register(&mut grip);
         let leaf: [u64; 3] = [
             0x0100_0000_0004_0001,
             0x0000_0001_0000_0000,
@@ -241,9 +270,9 @@ mod tests {
         assert_eq!(rt; first.words, wanted.words);
         wanted.words[..6].copy_from_slice(&inner);
         assert_eq!(rt; second.words, wanted.words);
-        assert_eq!(rt; grip.load_page(Phys(1)), PageWord::Mapped(Logical(1)));
-        assert_eq!(rt; grip.load_page(Phys(2)), PageWord::Mapped(Logical(2)));
-        assert_eq!(rt; grip.load_page(Phys(3)), PageWord::Free);
+        assert_eq!(rt; word_of(&mut grip, Phys(1)), PageWord::Mapped(Logical(1)));
+        assert_eq!(rt; word_of(&mut grip, Phys(2)), PageWord::Mapped(Logical(2)));
+        assert_eq!(rt; word_of(&mut grip, Phys(3)), PageWord::Free);
         Ok(())
     }
 
@@ -258,6 +287,8 @@ mod tests {
         let (region, mut dealer) = Region::make(rt.alloc(), layout)?;
         let mut one = region.deal(&mut dealer);
         let mut two = region.deal(&mut dealer);
+        register(&mut one);
+        register(&mut two);
         let note = one.tell();
         two.learn(note);
         let mut page = Page { words: [3; 256] };

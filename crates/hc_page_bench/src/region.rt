@@ -1,12 +1,12 @@
 //! Times of steps on a region, and of its making.
 ghost use Rattle.std.specs.Prelude.{◌≡◌};
 
-use crate::claims::{claims, exchanges, reads, writes};
+use crate::claims::{Claimer, exchanges};
 use crate::rounds::copies;
 use crate::timed::{Timed, report};
 use hc_base::Page;
 use hc_rows::Layout;
-use hc_steps::{Grip, Region};
+use hc_steps::Region;
 use std::io;
 use std::thread::{self, Threads};
 use std::time::Instant;
@@ -73,7 +73,7 @@ fn rows(every: usize) -> (Page, Page) {
 /// Reads and writes of whole rows, as ratios to the copy of a page.
 pub fn time_rows(rt: &HostRuntime) -> io::Result<()> {
     let (region, mut dealer) = Region::make(rt.alloc(), small())?;
-    let mut grip = region.deal(&mut dealer);
+    let mut claimer = Claimer::new(region.deal(&mut dealer));
     let (one, few) = rows(8);
     let (_, all) = rows(1);
     let mut copy = Timed::new();
@@ -85,13 +85,13 @@ pub fn time_rows(rt: &HostRuntime) -> io::Result<()> {
         let sum = copies(ROWS);
         copy = copy.with(sum, start.elapsed(rt)?);
         let start = Instant::now(rt)?;
-        let sum = reads(&mut grip, ROWS);
+        let sum = claimer.reads(ROWS);
         read = read.with(sum, start.elapsed(rt)?);
         let start = Instant::now(rt)?;
-        let sum = writes(&mut grip, &one, &few, ROWS);
+        let sum = claimer.writes(&one, &few, ROWS);
         write_few = write_few.with(sum, start.elapsed(rt)?);
         let start = Instant::now(rt)?;
-        let sum = writes(&mut grip, &one, &all, ROWS);
+        let sum = claimer.writes(&one, &all, ROWS);
         write_all = write_all.with(sum, start.elapsed(rt)?);
     }
     report(rt, "reads of a row", read, "a copy", copy)?;
@@ -111,21 +111,21 @@ pub fn time_rows(rt: &HostRuntime) -> io::Result<()> {
     )
 }
 
-// A connection's grip, and a checksum of what it claimed. 256 bytes lie between what two workers write, so that they share no
-// line of the processors' caches; that this is what makes four threads slower than one was not shown.
+// A registered connection's grip, and a checksum of what it claimed. 256 bytes lie between what two workers write, so that they
+// share no line of the processors' caches; that this is what makes four threads slower than one was not shown.
 #[derive(Drop)]
 struct Worker<'a> {
     before: [u64; 16],
-    grip: Grip<'a>,
+    claimer: Claimer<'a>,
     sum: u64,
     after: [u64; 16],
 }
 
 impl<'a> Worker<'a> {
-    fn new(grip: Grip<'a>) -> Worker<'a> {
+    fn new(claimer: Claimer<'a>) -> Worker<'a> {
         Worker {
             before: [0; 16],
-            grip,
+            claimer,
             sum: 0,
             after: [0; 16],
         }
@@ -135,12 +135,12 @@ impl<'a> Worker<'a> {
 /// Claims of one page that is given back, in one thread and in four, as ratios to a compare-and-exchange.
 pub fn time_steps<T: Threads + Sync>(rt: &HostRuntime, threads: &T) -> io::Result<()> {
     let (region, mut dealer) = Region::make(rt.alloc(), wide())?;
-    let mut grip = region.deal(&mut dealer);
+    let mut claimer = Claimer::new(region.deal(&mut dealer));
     let mut workers = [
-        Worker::new(region.deal(&mut dealer)),
-        Worker::new(region.deal(&mut dealer)),
-        Worker::new(region.deal(&mut dealer)),
-        Worker::new(region.deal(&mut dealer)),
+        Worker::new(Claimer::new(region.deal(&mut dealer))),
+        Worker::new(Claimer::new(region.deal(&mut dealer))),
+        Worker::new(Claimer::new(region.deal(&mut dealer))),
+        Worker::new(Claimer::new(region.deal(&mut dealer))),
     ];
     let mut exchange = Timed::new();
     let mut alone = Timed::new();
@@ -150,7 +150,7 @@ pub fn time_steps<T: Threads + Sync>(rt: &HostRuntime, threads: &T) -> io::Resul
         let sum = exchanges(CLAIMS);
         exchange = exchange.with(sum, start.elapsed(rt)?);
         let start = Instant::now(rt)?;
-        let sum = claims(&mut grip, CLAIMS);
+        let sum = claimer.claims(CLAIMS);
         alone = alone.with(sum, start.elapsed(rt)?);
         let start = Instant::now(rt)?;
         thread::for_each_mut(
@@ -158,7 +158,7 @@ pub fn time_steps<T: Threads + Sync>(rt: &HostRuntime, threads: &T) -> io::Resul
             &mut workers,
             4,
             &|_, worker| {
-                worker.sum = claims(&mut worker.grip, CLAIMS);
+                worker.sum = worker.claimer.claims(CLAIMS);
             },
         );
         together = together.with(0, start.elapsed(rt)?);

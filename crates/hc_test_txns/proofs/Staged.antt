@@ -61,9 +61,10 @@ done_more one other (t ∷ ts) more done = let d = done_first one t ts done in d
 pub idle_seat : (number : ℕ) (v : View) → MayStart number v → IsIdleSeat v
 idle_seat number v may = (may.0, done_idle number (own_txns v) may.1)
 
-pub started : (conn number : ℕ) (v : View) (s : Cid) (w : View) → MayStart number v → Registers conn v s w → HasStarted number w
-started conn number v s w may registers =
+pub started : (conn number : ℕ) (v : View) (s : Cid) (w : View) → MayStart number v → Registers conn v s w → w.pages ≡ [] → HasStarted number w
+started conn number v s w may registers none =
     let began = registers.1 in record {
+      none = none;
       snapshot = s;
       reads = ap (λ (x : View). x.stage) registers.2;
       newest = record {
@@ -104,6 +105,7 @@ can_draw number v ord started = record {
 pub drawn : (conn number id : ℕ) (v w : View) → HasStarted number v → DrewNext conn number v id w → IsDrawn id number 0 0 w
 drawn conn number id v w started drew_next =
     let is = drew_next.4 in record {
+      none = ap (λ (x : View). x.pages) is ∙ (ap (λ (x : View). x.pages) drew_next.3.is ∙ started.none);
       some = λ none. omega (arith, none, drew_next.2);
       own = ap (λ (x : View). x.own) is;
       snapshot = started.snapshot.0;
@@ -123,10 +125,10 @@ may_draw_first conn number v ord started =
 
 still_saw : (number id : ℕ) (f : TidWord) (v : View) → HasStarted number v → HasStarted number (saw id f v)
 still_saw number id tid.Empty v s = s
-still_saw number id (tid.Live c o) v s = record { snapshot = s.snapshot; reads = s.reads; newest = record { rest = s.newest.rest; is = s.newest.is; done = s.newest.done } }
-still_saw number id (tid.Validating c o n) v s = record { snapshot = s.snapshot; reads = s.reads; newest = record { rest = s.newest.rest; is = s.newest.is; done = s.newest.done } }
-still_saw number id (tid.Committed c o n) v s = record { snapshot = s.snapshot; reads = s.reads; newest = record { rest = s.newest.rest; is = s.newest.is; done = s.newest.done } }
-still_saw number id (tid.RolledBack c o) v s = record { snapshot = s.snapshot; reads = s.reads; newest = record { rest = s.newest.rest; is = s.newest.is; done = s.newest.done } }
+still_saw number id (tid.Live c o) v s = record { none = s.none; snapshot = s.snapshot; reads = s.reads; newest = record { rest = s.newest.rest; is = s.newest.is; done = s.newest.done } }
+still_saw number id (tid.Validating c o n) v s = record { none = s.none; snapshot = s.snapshot; reads = s.reads; newest = record { rest = s.newest.rest; is = s.newest.is; done = s.newest.done } }
+still_saw number id (tid.Committed c o n) v s = record { none = s.none; snapshot = s.snapshot; reads = s.reads; newest = record { rest = s.newest.rest; is = s.newest.is; done = s.newest.done } }
+still_saw number id (tid.RolledBack c o) v s = record { none = s.none; snapshot = s.snapshot; reads = s.reads; newest = record { rest = s.newest.rest; is = s.newest.is; done = s.newest.done } }
 
 pub drew_first : (conn number : ℕ) (v : View) (b : Bool) (m : Me Unit View) → HasStarted number v → DrewTid (record { conn = conn; id = 1; ord = number }) v b m → DrewFirst number b m.0
 drew_first conn number v true m started told = drawn conn number 1 v m.0 started (0, v, refl, record { more = []; is = refl; found = inl refl }, ap (λ (x : Me Unit View). x.0) told)
@@ -134,7 +136,7 @@ drew_first conn number v false m started told = subst (HasStarted number) (sym (
 
 -- where no id is left nothing else is new
 pub still_started : (number last : ℕ) (v w : View) → HasStarted number v → FoundDrawn last v w → HasStarted number w
-still_started number last v w started found = subst (HasStarted number) (sym found.1) (record { snapshot = started.snapshot; reads = started.reads; newest = record { rest = started.newest.rest; is = started.newest.is; done = started.newest.done } })
+still_started number last v w started found = subst (HasStarted number) (sym found.1) (record { none = started.none; snapshot = started.snapshot; reads = started.reads; newest = record { rest = started.newest.rest; is = started.newest.is; done = started.newest.done } })
 
 pub may_propose : (id number c : ℕ) (v : View) → IsDrawn id number c 0 v → MayPropose v
 may_propose id number c v d = when_open number (txn_of d.snapshot id number c 0) v (λ t. (t.id ≢ 0) × (t.place ≡ 0)) d.newest refl (d.some, refl)
@@ -144,6 +146,7 @@ proposed conn id number v c w d p =
     let u : View = p.0 in
     let own : w.own ≡ v.own = ap (λ (x : View). x.own) p.3 ∙ ap (λ (x : View). x.own) p.1.is in
     let word : w.word ≡ v.word = ap (λ (x : View). x.word) p.3 ∙ ap (λ (x : View). x.word) p.1.is in record {
+      none = ap (λ (x : View). x.pages) p.3 ∙ (ap (λ (x : View). x.pages) p.1.is ∙ d.none);
       some = d.some;
       own = own ∙ d.own;
       snapshot = d.snapshot;
@@ -198,6 +201,7 @@ may_roll_back conn id number v d form = record {
 -- a word that was stored changes no transaction
 said_drawn : (id number c place : ℕ) (f : TidWord) (v w : View) → IsDrawn id number c place v → (IsRolledBack f → ⊥) → w ≡ said f v → IsDrawn id number c place w
 said_drawn id number c place f v w d stays is = subst (IsDrawn id number c place) (sym is) (record {
+  none = d.none;
   some = d.some;
   own = d.own;
   snapshot = d.snapshot;
@@ -210,6 +214,7 @@ validates conn id number c v w d is = (said_drawn id number c.0 0 (tid.Validatin
 
 pub may_end : (id number c place : ℕ) (f : TidWord) (v w : View) → IsDrawn id number c place v → w ≡ said f v → MayEnd number w
 may_end id number c place f v w d is = subst (MayEnd number) (sym is) (record {
+  none = d.none;
   t = txn_of d.snapshot id number c place;
   nothing = refl;
   running = refl;
@@ -227,6 +232,7 @@ may_win conn last id number c v d = record {
 
 pub won : (w : Winning) (number : ℕ) (v after : View) → Validates w.conn w.id number w.c v → after ≡ won_by w v → IsDrawn w.id number w.c w.c after
 won w number v after d is = subst (IsDrawn w.id number w.c w.c) (sym is) (record {
+  none = d.0.none;
   some = d.0.some;
   own = d.0.own;
   snapshot = d.0.snapshot;
@@ -236,6 +242,7 @@ won w number v after d is = subst (IsDrawn w.id number w.c w.c) (sym is) (record
 
 pub was_lost : (w : Winning) (number n : ℕ) (v after : View) → Validates w.conn w.id number w.c v → after ≡ lost_to w n v → IsDrawn w.id number 0 0 after
 was_lost w number n v after d is = subst (IsDrawn w.id number 0 0) (sym is) (record {
+  none = d.0.none;
   some = d.0.some;
   own = d.0.own;
   snapshot = d.0.snapshot;
@@ -249,7 +256,7 @@ seen_lost w n v after is = subst (λ (x : View). w.c ≤ x.seen.0) (sym is) (lat
 
 -- the seat of a transaction that has nothing in its write set may be idle, and then the next may start
 pub may_leave : (number : ℕ) (v : View) → MayEnd number v → MayStand seat.Idle v
-may_leave number v e = when_open number e.t v (λ t. (t.place ≢ 0) ⊎ (t.write_set ≡ [])) e.newest e.running (inr e.nothing)
+may_leave number v e = (when_open number e.t v (λ t. (t.place ≢ 0) ⊎ (t.write_set ≡ [])) e.newest e.running (inr e.nothing), e.none)
 
 ended : (number next conn : ℕ) (t : Txn) (v w : View) → IsNewest number t v → t.ord < next → number ≤ next → w ≡ stood seat.Idle conn v → MayStart next w
 ended number next conn t v w newest below more is = subst (MayStart next) (sym is) (
@@ -261,7 +268,7 @@ pub left : (number conn : ℕ) (v w : View) → MayEnd number v → w ≡ stood 
 left number conn v w e is = ended number (number + 1) conn e.t v w e.newest (let same = e.ord in omega (arith, same)) (omega arith) is
 
 pub may_give_up : (number : ℕ) (v : View) → HasStarted number v → MayStand seat.Idle v
-may_give_up number v s = when_open number (txn_of s.snapshot.0 0 0 0 0) v (λ t. (t.place ≢ 0) ⊎ (t.write_set ≡ [])) s.newest refl (inr refl)
+may_give_up number v s = (when_open number (txn_of s.snapshot.0 0 0 0 0) v (λ t. (t.place ≢ 0) ⊎ (t.write_set ≡ [])) s.newest refl (inr refl), s.none)
 
 pub gave_up : (number conn : ℕ) (v w : View) → 0 < number → HasStarted number v → w ≡ stood seat.Idle conn v → MayStart number w
 gave_up number conn v w some s is = ended number number conn (txn_of s.snapshot.0 0 0 0 0) v w s.newest some (omega arith) is

@@ -30,14 +30,16 @@ pub record IsNewest (number : ℕ) (t : Txn) (v : View) : Type 0 where
   pub is : own_txns v ≡ t ∷ rest
   pub done : are_done number rest ≡ true
 
--- it reads its snapshot and has drawn no id
+-- it reads its snapshot and has drawn no id, and the seat owns no page
 pub record HasStarted (number : ℕ) (v : View) : Type 0 where
+  pub none : v.pages ≡ []
   pub snapshot : Cid
   pub reads : v.stage ≡ seat.Snapshot snapshot
   pub newest : IsNewest number (txn_of snapshot.0 0 0 0 0) v
 
--- it has drawn an id with this ordinal; a proposal and a commit number may be there
+-- it has drawn an id with this ordinal, and the seat owns no page; a proposal and a commit number may be there
 pub record IsDrawn (id number c place : ℕ) (v : View) : Type 0 where
+  pub none : v.pages ≡ []
   pub some : id ≢ 0
   pub own : v.own ≡ Some (record { 0 = id })
   pub snapshot : ℕ
@@ -53,8 +55,9 @@ abbrev pub DrewFirst : ℕ → Bool → View → Type 0
 DrewFirst number true v = IsDrawn 1 number 0 0 v
 DrewFirst number false v = HasStarted number v
 
--- it has nothing in its write set, so it may end
+-- it has nothing in its write set, and the seat owns no page, so it may end
 pub record MayEnd (number : ℕ) (v : View) : Type 0 where
+  pub none : v.pages ≡ []
   pub t : Txn
   pub nothing : t.write_set ≡ []
   pub running : t.ended ≡ false

@@ -1,4 +1,4 @@
-// Records were worked out by hand from section 2.1 of https://www.sqlite.org/fileformat2.html, and faults
+// Records were worked out by hand from "Record Format" of https://www.sqlite.org/fileformat2.html, and faults
 // from the rule of `hc_record`. The script tests/records.sh has SQLite write the integers of `INTEGERS` and
 // the lists of `ROWS`, and finds the same bytes.
 ghost use Rattle.std.specs.Prelude.{◌<◌, ◌^◌, length};

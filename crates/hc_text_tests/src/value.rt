@@ -1,4 +1,4 @@
-// The places of the values are SQLite's: section 4.1 of https://www.sqlite.org/datatype3.html.
+// The places of the values are SQLite's: "Sort Order" of https://www.sqlite.org/datatype3.html.
 use crate::made::{blob, ladder, text};
 use hc_value::{Blob, Class, Str, Value, class, cmp, copy};
 use std::alloc::Global;
