@@ -1,11 +1,12 @@
 -- What each form answers and puts, and that its integers fit.
-use Rattle.std.proofs.Common.{◌≡◌, refl, ℕ, ℤ, pos, negsuc, ◌<◌, ◌^◌, Bool, true, false, ◌&&◌, Option, Some, None, nat_lt, FitsSigned, w64}
+use Rattle.std.proofs.Common.{◌≡◌, refl, ℕ, ℤ, pos, negsuc, ◌^◌, true, ◌&&◌, Option, Some, None, FitsSigned, w64}
 use Rattle.std.proofs.lemmas.Bool.{and_parts, cond_both, ltb-true}
-use Rattle.hc_transcript.specs.declared.reply.Line.{Line}
 use Rattle.hc_transcript.specs.declared.reply.Line.TheVariants.{Ok, Error}
 use Rattle.hc_transcript.specs.declared.refusal.Refusal.{Refusal}
 use Rattle.hc_meaning.specs.Runs.Language.{IsOwn}
-use Rattle.hc_table.specs.Statements.{Action, Inserts, Selects, Updates, is_integer, has_integers, if_integers, id_of, answer_at, put_at}
+use Rattle.hc_table.specs.declared.action.Action.{Action}
+use Rattle.hc_table.specs.declared.action.Action.TheVariants.{Inserts, Selects, Updates}
+use Rattle.hc_table.specs.Statements.{is_integer, has_integers, if_integers, id_of, answer_at, put_at}
 
 -- a value that is put fits
 abbrev pub PutFits : Option ℤ → Type 0

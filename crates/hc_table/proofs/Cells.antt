@@ -12,7 +12,6 @@ use Rattle.std.proofs.lemmas.Slice.Eq.{bytes_eq-Decides}
 use Rattle.hc_value.specs.declared.value.Value.{Value}
 use Rattle.hc_value.specs.declared.value.Value.TheVariants.{Null, Int, Text, Blob}
 use Rattle.hc_record.specs.Laws.{NoEncodingBeginsAnother}
-use Rattle.hc_record.specs.Record.{encoding}
 use Rattle.hc_key.specs.Laws.{ByteOrderIsValueOrder, KeysDiffer}
 use Rattle.hc_range.specs.Order.{is_below, IsBelow}
 use Rattle.hc_range.specs.Ranges.{InRange}
@@ -20,22 +19,13 @@ use Rattle.hc_range.proofs.ByteOrder.{below_irrefl, prefix_below}
 use Rattle.hc_core.specs.declared.cells.Cell.{Cell}
 use Rattle.hc_core.specs.Versions.{IsBelowEach, AreAscending}
 use Rattle.hc_meaning.specs.Runs.Language.{record_at}
-use Rattle.hc_table.specs.Rows.{Rows, IsBelowEachRow, AreRows, value_of, with_value, cells_of_rows, row_key, row_range}
+use Rattle.hc_table.specs.Rows.{Rows, IsBelowEachRow, AreRows, value_of, with_value, cells_of_rows, row_key, row_range, row_record, record_of}
 use Rattle.hc_table.specs.Language.{rows_with}
 use Rattle.hc_table.proofs.Placing.{less, never_both, placed}
 use Rattle.hc_table.proofs.Short.{row_record_short}
 
--- the record of a row with a value
-abbrev pub row_record : ℤ → List ℕ
-row_record v = encoding (Null ∷ Int v ∷ [])
-
 abbrev row_cell : ℤ × ℤ → Cell
 row_cell row = record { key = row_key row.0; rec = row_record row.1 }
-
--- what is at the key of a row by its value
-abbrev pub record_of : Option ℤ → Option (List ℕ)
-record_of None = None
-record_of (Some v) = Some (row_record v)
 
 -- what is at a key after a value is put at an id, by what was there
 abbrev pub record_with : ℤ → Option ℤ → List ℕ → Option (List ℕ) → Option (List ℕ)

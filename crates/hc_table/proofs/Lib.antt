@@ -1,5 +1,5 @@
-mod Actions
-mod Cells
+pub mod Actions
+pub mod Cells
 mod OneLanguage
 mod Placing
 mod Short

@@ -1,16 +1,16 @@
 -- The table has what right runs ask of a language.
-use Rattle.std.proofs.Common.{◌≡◌, ◌≢◌, ◌∙◌, refl, sym, ap, subst, ℕ, ℤ, Bool, true, false, cond, Option, Some, None, List, [], ◌∷◌, ◌↔◌, inl, inr, ⊎_elim, bytes_eq, FitsSigned, w64}
+use Rattle.std.proofs.Common.{◌≡◌, ◌≢◌, ◌∙◌, refl, sym, ap, subst, ℕ, ℤ, false, Option, Some, None, List, inl, ⊎_elim, bytes_eq, FitsSigned, w64}
 use Rattle.std.proofs.lemmas.Bool.{cases_Bool}
 use Rattle.std.proofs.lemmas.Slice.Eq.{bytes_eq-Decides}
 use Rattle.hc_record.specs.Laws.{NoEncodingBeginsAnother}
 use Rattle.hc_key.specs.Laws.{ByteOrderIsValueOrder, KeysDiffer}
-use Rattle.hc_ast.specs.declared.statement.Stmt.{Stmt}
 use Rattle.hc_range.specs.Ranges.{InRange, InAny}
 use Rattle.hc_transcript.specs.declared.refusal.Refusal.{Refusal}
 use Rattle.hc_transcript.specs.declared.reply.Line.TheVariants.{Error}
 use Rattle.hc_meaning.specs.Runs.Language.{AgreeOn, IsLanguage, IsOwn, record_at}
 use Rattle.hc_table.specs.Rows.{Rows, AreRows, value_of, cells_of_rows, row_key, row_range}
-use Rattle.hc_table.specs.Statements.{Action, form_of, if_integers, id_of, answer_at, put_at}
+use Rattle.hc_table.specs.declared.action.Action.{Action}
+use Rattle.hc_table.specs.Statements.{form_of, if_integers, id_of, answer_at, put_at}
 use Rattle.hc_table.specs.Language.{rows_with, effect, ranges_of, table_language}
 use Rattle.hc_table.proofs.Actions.{PutFits, HaveFit, they_fit, id_fits, put_fits, own_at, none_put}
 use Rattle.hc_table.proofs.Cells.{record_with, key_in_range, same_rows, cells_ascend, at_with, same_value}

@@ -1,5 +1,5 @@
 -- Rows in order, and a value put in its place.
-use Rattle.std.proofs.Common.{◌≡◌, refl, subst, ℤ, Bool, true, false, if◌then◌else◌, List, [], ◌∷◌, arith, FitsSigned, w64}
+use Rattle.std.proofs.Common.{◌≡◌, refl, subst, ℤ, Bool, true, false, if◌then◌else◌, [], ◌∷◌, arith, FitsSigned, w64}
 use Rattle.std.specs.Prelude.{int_lt, ◌<ℤ◌}
 use Rattle.std.proofs.lemmas.Int.{ints}
 use Rattle.hc_table.specs.Rows.{Rows, IsBelowEachRow, AreRows, with_value}

@@ -1,5 +1,5 @@
 -- The record of a row is short.
-use Rattle.std.proofs.Common.{◌≡◌, ℕ, zero, suc, ◌+◌, ◌<◌, ◌^◌, ℤ, pos, negsuc, Bool, true, false, if◌then◌else◌, List, [], ◌∷◌, ◌++◌, length, nat_lt, arith}
+use Rattle.std.proofs.Common.{ℕ, zero, suc, ◌+◌, ◌<◌, ◌^◌, ℤ, pos, negsuc, Bool, true, false, if◌then◌else◌, List, [], ◌∷◌, ◌++◌, length, nat_lt, arith}
 use Rattle.std.specs.Int.{bytes_high_first, cast_unsigned, w64}
 use Rattle.std.proofs.lemmas.Bool.{cond_both, ltb-true}
 use Rattle.hc_value.specs.declared.value.Value.TheVariants.{Null, Int}

@@ -1,12 +1,12 @@
 -- The trees of the three forms are taken for what they are.
-use Rattle.std.proofs.Common.{◌≡◌, ◌∙◌, refl, ap, ℤ, true, if◌then◌else◌, ◌&&◌, List, [], ◌∷◌, Option, Some, None}
+use Rattle.std.proofs.Common.{◌≡◌, ◌∙◌, ap, ℤ, true, if◌then◌else◌, ◌&&◌, [], ◌∷◌, Some, None}
 use Rattle.std.specs.Prelude.{codes}
 use Rattle.hc_value.specs.declared.value.Value.TheVariants.{Int}
 use Rattle.hc_ast.specs.declared.operator.BinaryOp.TheVariants.{Eq}
-use Rattle.hc_ast.specs.declared.expression.Expr.{Expr, out-Expr}
+use Rattle.hc_ast.specs.declared.expression.Expr.{Expr}
 use Rattle.hc_ast.specs.declared.expression.Expr.TheVariants as expr
 use Rattle.hc_ast.specs.declared.query.Item.TheVariants as item
-use Rattle.hc_table.specs.Statements.{Action, number_in, number_of, number_below_minus, is_column, id_in, id_of_filter, is_v, selection, insertion, update_of}
+use Rattle.hc_table.specs.Statements.{number_in, number_of, number_below_minus, is_column, id_in, id_of_filter, is_v, selection, insertion, update_of}
 use Rattle.hc_table.specs.Forms.{EachFormIsTaken, column, where_id}
 
 id_found : (id : Expr) (m : ℤ) → number_of id ≡ Some m → id_of_filter (where_id id) ≡ Some m

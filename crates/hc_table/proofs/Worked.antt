@@ -1,9 +1,10 @@
 -- The statements do what was worked out by hand.
-use Rattle.std.proofs.Common.{◌≡◌, ap, ℤ, pos, negsuc, Option, Some}
+use Rattle.std.proofs.Common.{ap, pos, negsuc, Option}
 use Rattle.hc_ast.specs.declared.expression.Expr.TheVariants as expr
 use Rattle.hc_meaning.specs.Runs.Language.{Effect}
 use Rattle.hc_table.specs.Rows.{Rows}
-use Rattle.hc_table.specs.Statements.{Action, if_integers}
+use Rattle.hc_table.specs.declared.action.Action.{Action}
+use Rattle.hc_table.specs.Statements.{if_integers}
 use Rattle.hc_table.specs.Language.{effect}
 use Rattle.hc_table.specs.Examples.{StatementsDoSo, written, two_rows}
 use Rattle.hc_table.proofs.TakenForms.{each_form}

@@ -7,7 +7,8 @@ use Rattle.hc_ast.specs.declared.expression.Expr.TheVariants as expr
 use Rattle.hc_ast.specs.declared.query.Item.TheVariants as item
 use Rattle.hc_ast.specs.declared.statement.Stmt.{Stmt}
 use Rattle.hc_ast.specs.declared.statement.Stmt.TheVariants as stmt
-use Rattle.hc_table.specs.Statements.{Inserts, Selects, Updates, number_of, form_of}
+use Rattle.hc_table.specs.declared.action.Action.TheVariants.{Inserts, Selects, Updates}
+use Rattle.hc_table.specs.Statements.{number_of, form_of}
 
 abbrev pub column : List ℕ → Expr
 column name = expr.Name None name

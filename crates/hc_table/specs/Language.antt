@@ -3,7 +3,8 @@ use Rattle.std.specs.Prelude.{ℤ, List, [], ◌∷◌, Option, None, Some}
 use Rattle.hc_range.specs.declared.range.Range.{Range}
 use Rattle.hc_meaning.specs.Runs.Language.{Effect, Language}
 use Rattle.hc_table.specs.Rows.{Rows, AreRows, value_of, with_value, cells_of_rows, row_range}
-use Rattle.hc_table.specs.Statements.{Action, action_of, id_of, answer_at, put_at, no_statement}
+use Rattle.hc_table.specs.declared.action.Action.{Action}
+use Rattle.hc_table.specs.Statements.{action_of, id_of, answer_at, put_at, no_statement}
 
 abbrev pub rows_with : ℤ → Option ℤ → Rows → Rows
 rows_with id None rows = rows

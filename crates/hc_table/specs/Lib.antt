@@ -1,4 +1,5 @@
 pub mod Examples
+pub mod Fitting
 pub mod Forms
 pub mod Language
 pub mod Laws

@@ -3,13 +3,13 @@ use Rattle.std.specs.Prelude.{ℕ, ℤ, ◌<ℤ◌, FitsSigned, true, false, Lis
 use Rattle.std.specs.Int.{w64}
 use Rattle.std.specs.Ordering.{int_eq}
 use Rattle.hc_value.specs.declared.storage.Class.TheVariants as class
-use Rattle.hc_value.specs.declared.value.Value.TheVariants.{Int}
+use Rattle.hc_value.specs.declared.value.Value.TheVariants.{Int, Null}
 use Rattle.hc_key.specs.Keys.{key_bytes}
+use Rattle.hc_record.specs.Record.{encoding}
 use Rattle.hc_range.specs.declared.range.Range.{Range}
 use Rattle.hc_range.specs.Order.{successor}
 use Rattle.hc_core.specs.declared.cells.Cell.{Cell}
 use Rattle.hc_schema.specs.declared.table.Table.{Table}
-use Rattle.hc_schema.specs.declared.table.Column.{Column}
 use Rattle.hc_schema.specs.Cells.{row_cells}
 
 -- the rows (id, v)
@@ -60,3 +60,12 @@ row_key id = key_bytes the_table.tree (Int id ∷ [])
 
 abbrev pub row_range : ℤ → Range
 row_range id = record { lo = row_key id; hi = Some (successor (row_key id)) }
+
+-- the record of a row with a value: its columns, of which the rowid is NULL there
+abbrev pub row_record : ℤ → List ℕ
+row_record v = encoding (Null ∷ Int v ∷ [])
+
+-- what is at the key of a row by its value
+abbrev pub record_of : Option ℤ → Option (List ℕ)
+record_of None = None
+record_of (Some v) = Some (row_record v)

@@ -17,15 +17,8 @@ use Rattle.hc_ast.specs.declared.statement.Stmt.TheVariants as stmt
 use Rattle.hc_transcript.specs.declared.reply.Line.TheVariants.{Ok, Error}
 use Rattle.hc_transcript.specs.declared.refusal.Refusal.TheVariants.{Primary, Syntax}
 use Rattle.hc_meaning.specs.declared.answer.Answer.{Answer}
-
--- one of the three forms, with its numbers
-pub data Action : Type 0 where
-  -- INSERT INTO t VALUES (id, v)
-  Inserts : ℤ → ℤ → Action
-  -- SELECT v FROM t WHERE id = N
-  Selects : ℤ → Action
-  -- UPDATE t SET v = N WHERE id = N: the id first
-  Updates : ℤ → ℤ → Action
+use Rattle.hc_table.specs.declared.action.Action.{Action}
+use Rattle.hc_table.specs.declared.action.Action.TheVariants.{Inserts, Selects, Updates}
 
 -- ---- which statements are of these forms
 
@@ -142,11 +135,15 @@ id_of (Updates id v) = id
 abbrev pub changed : ℕ → Answer
 changed count = record { rows = []; last = Ok count }
 
--- what is answered, by the value that is there. A row with the id is there already: 1555, SQLITE_CONSTRAINT_PRIMARYKEY of
--- SQLite's result codes (rescode.html), with the table and its key column.
+-- A row with the id is there already: 1555, SQLITE_CONSTRAINT_PRIMARYKEY of SQLite's result codes (rescode.html), with the
+-- table and its key column.
+abbrev pub repeated : Answer
+repeated = record { rows = []; last = Error (Primary (codes "t") (codes "id")) }
+
+-- what is answered, by the value that is there
 abbrev pub answer_at : Action → Option ℤ → Answer
 answer_at (Inserts id v) None = changed 1
-answer_at (Inserts id v) (Some old) = record { rows = []; last = Error (Primary (codes "t") (codes "id")) }
+answer_at (Inserts id v) (Some old) = repeated
 answer_at (Selects id) None = changed 0
 answer_at (Selects id) (Some old) = record { rows = record { values = Int old ∷ [] } ∷ []; last = Ok 1 }
 answer_at (Updates id v) None = changed 0
