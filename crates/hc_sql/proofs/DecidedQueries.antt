@@ -47,7 +47,7 @@ flat_found P (None ∷ found) all = flat_found P found all.1
 flat_found P (Some x ∷ found) all = (all.0, flat_found P found all.1)
 
 -- the same results are the same replies
-same_reply : (a b after_a after_b : Database) (r s : Result Reply Refusal) → r ≡ s → (ran a r after_a).reply ≡ (ran b s after_b).reply
+pub same_reply : (a b after_a after_b : Database) (r s : Result Reply Refusal) → r ≡ s → (ran a r after_a).reply ≡ (ran b s after_b).reply
 same_reply a b after_a after_b r s same = subst (λ t. (ran a r after_a).reply ≡ (ran b t after_b).reply) same (by_result r)
   where
     by_result : (t : Result Reply Refusal) → (ran a t after_a).reply ≡ (ran b t after_b).reply
@@ -55,23 +55,23 @@ same_reply a b after_a after_b r s same = subst (λ t. (ran a r after_a).reply �
     by_result (Err refusal) = refl
 
 module _ (keys : KeysDiffer) (encodings : NoEncodingBeginsAnother) (ties : TiesAreSame) (ranges : RangesHoldTheirKeys) (Keys : List ℕ → Type 0) (a b : Database) (is_a : IsDatabase a) (is_b : IsDatabase b) (agree : Agree Keys a b) where
-  abbrev Shares : Table → Type 0
+  abbrev pub Shares : Table → Type 0
   Shares = Both keys encodings ties ranges Keys a b is_a is_b agree
 
-  abbrev Steady : {A : Type 0} → (A → Type 0) → Work A → Type 0
+  abbrev pub Steady : {A : Type 0} → (A → Type 0) → Work A → Type 0
   Steady P work = IsDecided Keys a b P work
 
-  gives : {A : Type 0} (x : A) → Steady Any (give x)
+  pub gives : {A : Type 0} (x : A) → Steady Any (give x)
   gives x = give_decided Keys a b Any x tt
 
   -- one work and then another, of whose value nothing is asked
-  follows : {A B : Type 0} (work : Work A) (more : A → Work B) → Steady Any work → ((x : A) → Steady Any (more x)) → Steady Any (next work more)
+  pub follows : {A B : Type 0} (work : Work A) (more : A → Work B) → Steady Any work → ((x : A) → Steady Any (more x)) → Steady Any (next work more)
   follows work more first rest = next_decided Keys a b Any Any more (λ x any. rest x) work first
 
-  needs : {A : Type 0} (refusal : Refusal) (found : Option A) → Steady Any (need refusal found)
+  pub needs : {A : Type 0} (refusal : Refusal) (found : Option A) → Steady Any (need refusal found)
   needs refusal found = need_decided Keys a b Any refusal found (λ x is. tt)
 
-  turns : {X A : Type 0} (work : X → Work (List A)) (xs : List X) → ((x : X) → Steady Any (work x)) → Steady Any (next (in_turn work xs) (λ found. give (flat found)))
+  pub turns : {X A : Type 0} (work : X → Work (List A)) (xs : List X) → ((x : X) → Steady Any (work x)) → Steady Any (next (in_turn work xs) (λ found. give (flat found)))
   turns work xs each =
       next_decided Keys a b (AllByRecursion Any) Any (λ found. give (flat found)) (λ found all. gives (flat found))
       (in_turn work xs) (in_turn_decided Keys a b Any work xs (λ x among. each x))
@@ -95,7 +95,7 @@ module _ (keys : KeysDiffer) (encodings : NoEncodingBeginsAnother) (ties : TiesA
     by_index None listed v = gives []
     by_index (Some index) listed v = by_value index (listed index refl) v
 
-    path_decided : (offset : ℕ) (conjuncts : List Bound) (row : List Value) (path : Path) → Steady Any (path_rows t offset conjuncts row path)
+    pub path_decided : (offset : ℕ) (conjuncts : List Bound) (row : List Value) (path : Path) → Steady Any (path_rows t offset conjuncts row path)
     path_decided offset conjuncts row (Rowid n) =
         follows (value_sought conjuncts row offset (offset + unwrap_or t.alias 0) n) (rows_by_rowid t)
         (needs Overflow (sought_value row (option_and_then (sought offset (offset + unwrap_or t.alias 0)) (slice_get conjuncts n)))) by_rowid
@@ -126,7 +126,7 @@ module _ (keys : KeysDiffer) (encodings : NoEncodingBeginsAnother) (ties : TiesA
 
   -- ---- the statement
 
-  named_decided : (names : List (List ℕ)) → Steady (AllByRecursion Shares) (named_tables names)
+  pub named_decided : (names : List (List ℕ)) → Steady (AllByRecursion Shares) (named_tables names)
   named_decided names =
       next_decided Keys a b (AllByRecursion (OnFound Shares)) (AllByRecursion Shares) (λ found. give (flat_map option_to_list found))
       (λ found all. give_decided Keys a b (AllByRecursion Shares) (flat_map option_to_list found) (flat_found Shares found all))

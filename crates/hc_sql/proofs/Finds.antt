@@ -60,7 +60,7 @@ finds_confined {A} Inv P work finds db is =
     by_result (Ok x) after same holds = subst (λ d. Inv d × P d x) (sym same) (is, holds)
     by_result (Err refusal) after same holds = tt
 
-all_flat : {A : Type 0} (P : A → Type 0) (lists : List (List A)) → AllByRecursion (AllByRecursion P) lists → AllByRecursion P (flat lists)
+pub all_flat : {A : Type 0} (P : A → Type 0) (lists : List (List A)) → AllByRecursion (AllByRecursion P) lists → AllByRecursion P (flat lists)
 all_flat P [] all = tt
 all_flat P ([] ∷ lists) all = all_flat P lists all.1
 all_flat P ((x ∷ xs) ∷ lists) all = (all.0.0, all_flat P (xs ∷ lists) (all.0.1, all.1))

@@ -50,7 +50,7 @@ in_ranges key index [] among here = absurd among
 in_ranges key index (i ∷ indexes) (inl same) here = inl (subst (λ (x : Index). InRange (tree_range x.tree) key) same here)
 in_ranges key index (i ∷ indexes) (inr later) here = inr (in_ranges key index indexes later here)
 
-without : (tree : ℕ) (db : Database) (e : Entry) → Among e (entries_of (without_table tree db)) → Among e (entries_of db)
+pub without : (tree : ℕ) (db : Database) (e : Entry) → Among e (entries_of (without_table tree db)) → Among e (entries_of db)
 without tree [] e among = among
 without tree (f ∷ db) e among = by_test (not (nat_eq f.table.tree tree)) (without tree db e) among
   where
@@ -63,11 +63,11 @@ without tree (f ∷ db) e among = by_test (not (nat_eq f.table.tree tree)) (with
     by_test false rest here = among_back e (filled_entries f) (entries_of db) (rest here)
 
 -- an entry of a table with this tree
-abbrev Owned : ℕ → Entry → Database → Type 0
+abbrev pub Owned : ℕ → Entry → Database → Type 0
 Owned tree e db = (g : Filled) × Among g db × (g.table.tree ≡ tree) × Among e (filled_entries g)
 
 -- an entry stays, but for one of a table with this tree
-stays_or : (tree : ℕ) (db : Database) (e : Entry) → Among e (entries_of db) → Owned tree e db ⊎ Among e (entries_of (without_table tree db))
+pub stays_or : (tree : ℕ) (db : Database) (e : Entry) → Among e (entries_of db) → Owned tree e db ⊎ Among e (entries_of (without_table tree db))
 stays_or tree [] e among = absurd among
 stays_or tree (f ∷ db) e among = by_test (nat_eq f.table.tree tree) refl (stays_or tree db e) (among_either e (filled_entries f) (entries_of db) among)
   where

@@ -44,7 +44,7 @@ use Rattle.hc_sql.proofs.KeptDrops.{named_in, none_still}
 -- ---- the entries of an index
 
 -- an entry of an index of a table with these rows
-abbrev OfIndex : List ℕ → List Row → Index → Entry → Type 0
+abbrev pub OfIndex : List ℕ → List Row → Index → Entry → Type 0
 OfIndex name rows index e = (e ≡ index_entry name index) ⊎ ((e ≡ index_name_entry name index) ⊎ ((row : Row) × Among row rows × (e ≡ row_index_entry row.rowid row.values index)))
 
 -- all of them are at these keys
@@ -56,7 +56,7 @@ abbrev Stays : (List ℕ → Type 0) → List ℕ → List Row → List Index �
 Stays Keys name rows xs ys = (index : Index) → Among index xs → Among index ys ⊎ AllAt Keys name index rows
 
 -- a table with these indexes and rows
-abbrev with_these : Table → List Index → List Row → Filled
+abbrev pub with_these : Table → List Index → List Row → Filled
 with_these t xs rows = record { table = with_indexes xs t; rows = rows }
 
 module _ (Keys : List ℕ → Type 0) (t : Table) (rows : List Row) (xs ys : List Index) (stays : Stays Keys t.name rows xs ys) where
@@ -231,10 +231,10 @@ module _ (keys : KeysDiffer) (encodings : NoEncodingBeginsAnother) (ranges : Ran
       (λ made. next_confined (Holds t) (λ dropped db. Unit {0}) (λ reply db. Unit {0}) (clear_index t index) (λ dropped. give (done 0)) (λ db is. (dropped db is, tt)) (λ gone. still_confined (λ db. Unit {0}) (give (done 0)) (λ db. refl)))
 
 -- an index that a database has is found by its name
-abbrev HasIndex : Database → Owned → Type 0
+abbrev pub HasIndex : Database → Owned → Type 0
 HasIndex db o = Has db o.table × Among o.index o.table.indexes
 
-called_in : (indexes : List Index) (name : List ℕ) → OnFound (λ i. Among i indexes) (index_called indexes name)
+pub called_in : (indexes : List Index) (name : List ℕ) → OnFound (λ i. Among i indexes) (index_called indexes name)
 called_in [] name = tt
 called_in (index ∷ indexes) name = by_test (same_name index.name name) (index_called indexes name) (called_in indexes name)
   where
@@ -243,7 +243,7 @@ called_in (index ∷ indexes) name = by_test (same_name index.name name) (index_
     by_test false None rest = tt
     by_test false (Some i) rest = inr rest
 
-owned_in : (db : Database) (name : List ℕ) → OnFound (HasIndex db) (index_of (map (λ (f : Filled). f.table) db) name)
+pub owned_in : (db : Database) (name : List ℕ) → OnFound (HasIndex db) (index_of (map (λ (f : Filled). f.table) db) name)
 owned_in [] name = tt
 owned_in (f ∷ db) name = by_found (index_called f.table.indexes name) (called_in f.table.indexes name) (index_of (map (λ (g : Filled). g.table) db) name) (owned_in db name)
   where

@@ -57,7 +57,7 @@ use Rattle.hc_sql.proofs.KeptIndexes.{create_index_confined, drop_index_confined
 
 -- ---- the tables that a statement names
 
-named_has : (db : Database) (names : List (List ℕ)) → Finds db (AllByRecursion (Has db)) (named_tables names)
+pub named_has : (db : Database) (names : List (List ℕ)) → Finds db (AllByRecursion (Has db)) (named_tables names)
 named_has db names =
     next_finds db (AllByRecursion (OnFound (Has db))) (AllByRecursion (Has db)) (in_turn find_table names) (λ found. give (flat_map option_to_list found))
     (in_turn_finds db (OnFound (Has db)) find_table names (λ name. (refl, by_search name (search db name)))) (λ found all. (refl, all_there (Has db) found all))

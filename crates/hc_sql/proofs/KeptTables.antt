@@ -23,10 +23,10 @@ use Rattle.hc_sql.proofs.Kept.{Kept, IsConfined, next_confined, still_confined, 
 use Rattle.hc_sql.proofs.KeptRows.{at_own}
 
 -- the new table, which has no rows
-abbrev new_filled : Table → Filled
+abbrev pub new_filled : Table → Filled
 new_filled t = record { table = t; rows = [] }
 
-new_over : (t : Table) (db : Database) (e : Entry) → Among e (entries_of db) → Among e (entries_of (with_table t db))
+pub new_over : (t : Table) (db : Database) (e : Entry) → Among e (entries_of db) → Among e (entries_of (with_table t db))
 new_over t [] e among = absurd among
 new_over t (f ∷ db) e among = by_test (nat_lt f.table.tree t.tree) (new_over t db e) (among_either e (filled_entries f) (entries_of db) among)
   where
@@ -36,7 +36,7 @@ new_over t (f ∷ db) e among = by_test (nat_lt f.table.tree t.tree) (new_over t
     by_test true rest (inr later) = among_back e (filled_entries f) (entries_of (with_table t db)) (rest later)
     by_test false rest either = among_back e (filled_entries (new_filled t)) (entries_of (f ∷ db)) among
 
-new_back : (t : Table) (db : Database) (e : Entry) → Among e (entries_of (with_table t db)) → Among e (filled_entries (new_filled t)) ⊎ Among e (entries_of db)
+pub new_back : (t : Table) (db : Database) (e : Entry) → Among e (entries_of (with_table t db)) → Among e (filled_entries (new_filled t)) ⊎ Among e (entries_of db)
 new_back t [] e among = among_either e (filled_entries (new_filled t)) [] among
 new_back t (f ∷ db) e among = by_test (nat_lt f.table.tree t.tree) (new_back t db e) among
   where

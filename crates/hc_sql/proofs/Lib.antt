@@ -1,9 +1,19 @@
 pub mod BoundTables
+pub mod ClearedRows
 pub mod Decided
+pub mod DecidedChanges
+pub mod DecidedDelete
+pub mod DecidedDrops
+pub mod DecidedIndexDrops
+pub mod DecidedIndexes
 pub mod DecidedLooks
 pub mod DecidedQueries
+pub mod DecidedTables
 pub mod DifferentRows
 pub mod Endings
+mod FewerIndexes
+pub mod FewerTables
+mod Filters
 pub mod Finds
 mod Firsts
 mod Groups
@@ -16,7 +26,10 @@ pub mod KeptRows
 pub mod KeptStatements
 pub mod KeptTables
 pub mod KeptUpdate
-mod Loops
+pub mod Leaves
+pub mod Loops
+pub mod OtherRows
+mod SameValues
 pub mod Searches
 pub mod Shared
 pub mod SharedRows

@@ -19,10 +19,10 @@ use Rattle.hc_sql.specs.Select.{meets, if_met, path_rows, flat, loops, candidate
 use Rattle.hc_sql.specs.PathLaws.{product_after, product, IsDecided, is_met, AreReadWhole}
 
 -- work that comes to a value and leaves the database
-abbrev Comes : {A : Type 0} → Work A → Database → A → Type 0
+abbrev pub Comes : {A : Type 0} → Work A → Database → A → Type 0
 Comes work db a = ((work db).result ≡ Ok a) × ((work db).db ≡ db)
 
-next_comes : {A B : Type 0} (work : Work A) (more : A → Work B) (db : Database) (a : A) (b : B) → Comes work db a → Comes (more a) db b → Comes (next work more) db b
+pub next_comes : {A B : Type 0} (work : Work A) (more : A → Work B) (db : Database) (a : A) (b : B) → Comes work db a → Comes (more a) db b → Comes (next work more) db b
 next_comes {A} {B} work more db a b one other = by (work db).result (work db).db (work db).reads one.0 one.1
   where
     by : (r : Result A Refusal) (d : Database) (reads : List Range) → r ≡ Ok a → d ≡ db
@@ -32,7 +32,7 @@ next_comes {A} {B} work more db a b one other = by (work db).result (work db).db
       ap (λ x. (go_on x d reads more).db) is ∙ (ap (λ x. (more a x).db) same ∙ other.1),
     )
 
-turns_come : {X A : Type 0} (work : X → Work A) (f : X → A) (db : Database) (xs : List X) → AllByRecursion (λ x. Comes (work x) db (f x)) xs
+pub turns_come : {X A : Type 0} (work : X → Work A) (f : X → A) (db : Database) (xs : List X) → AllByRecursion (λ x. Comes (work x) db (f x)) xs
     → Comes (in_turn work xs) db (map f xs)
 turns_come work f db [] each = (refl, refl)
 turns_come work f db (x ∷ xs) each =

@@ -14,3 +14,4 @@ pub mod Statements
 pub mod Laws
 pub mod ResultLaws
 pub mod PathLaws
+pub mod ChangeLaws

@@ -4,6 +4,7 @@
 //! empty functions, whose contracts are the laws.
 #![tactic(auto)]
 
+pub mod change_laws;
 pub mod laws;
 pub mod path_laws;
 pub mod result_laws;
