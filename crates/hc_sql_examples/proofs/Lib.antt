@@ -1,0 +1,12 @@
+pub mod Compute
+pub mod Trees
+pub mod PairsComputed
+pub mod LinkedComputed
+pub mod IndexedComputed
+pub mod KeyedComputed
+pub mod SelectsComputed
+pub mod InsertsComputed
+pub mod UpdatesComputed
+pub mod DeletesComputed
+pub mod CreatesComputed
+pub mod DropsComputed

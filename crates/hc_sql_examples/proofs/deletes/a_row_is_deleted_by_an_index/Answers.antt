@@ -1,0 +1,5 @@
+use Rattle.hc_sql_examples.proofs.DeletesComputed.{a_row_is_deleted_by_an_index}
+use Rattle.hc_sql_examples.proofs.deletes.a_row_is_deleted_by_an_index.Goals as goal
+
+pub returns : goal.returns
+returns c = a_row_is_deleted_by_an_index

@@ -1,0 +1,5 @@
+use Rattle.hc_sql_examples.proofs.DropsComputed.{a_table_goes_with_the_names_of_its_automatic_indexes}
+use Rattle.hc_sql_examples.proofs.drops.a_table_goes_with_the_names_of_its_automatic_indexes.Goals as goal
+
+pub returns : goal.returns
+returns c = a_table_goes_with_the_names_of_its_automatic_indexes

@@ -1,0 +1,5 @@
+use Rattle.hc_sql_examples.proofs.SelectsComputed.{an_index_of_two_columns_keeps_the_order_of_rowids}
+use Rattle.hc_sql_examples.proofs.selects.an_index_of_two_columns_keeps_the_order_of_rowids.Goals as goal
+
+pub returns : goal.returns
+returns c = an_index_of_two_columns_keeps_the_order_of_rowids

@@ -1,0 +1,12 @@
+pub mod Worked
+pub mod Words
+pub mod Pairs
+pub mod Linked
+pub mod Indexed
+pub mod Keyed
+pub mod Selects
+pub mod Inserts
+pub mod Updates
+pub mod Deletes
+pub mod Creates
+pub mod Drops
