@@ -15,7 +15,7 @@ use hc_tidlog::begin;
 /// what the seat has seen before. Others see first that it is starting, and then its snapshot.
 pub fn register(grip: &mut Grip<'_>) -> Cid
     requires idle { IsIdleSeat grip.old.seat.me.0 }
-    ensures registered { Registers grip.old.conn grip.old.seat.me.0 result grip.new.seat.me.0 }
+    ensures registered { Registers grip.old.layout grip.old.conn grip.old.seat.me.0 result grip.new.seat.me.0 }
     ensures may_claim { IsRegistered grip.new.seat.me.0.stage }
     ensures none { grip.new.seat.me.0.pages ≡ [] }
     ensures least { grip.old.seat.me.0.seen.0 ≤ result.0 }

@@ -4,7 +4,7 @@ use mathlib.Core.Option.{some}
 use lib.ListN.{get_elem?}
 use Rattle.hc_base.specs.Lookup.{but}
 use Rattle.hc_rows.specs.declared.layout.Layout.{Layout}
-use Rattle.hc_rows.specs.Regions.{seat_words, page_words, map_words, tid_words, log_words, rows}
+use Rattle.hc_rows.specs.Regions.{page_words, map_words, rows}
 use Rattle.hc_rule.specs.declared.view.View.{View}
 use Rattle.hc_rule.specs.declared.view.Role.{Role}
 use Rattle.hc_rule.specs.declared.view.Row.{Row}

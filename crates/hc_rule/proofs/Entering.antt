@@ -1,5 +1,5 @@
 -- How accounts and the log go on where an entry comes into one connection's account: each part, of what it reads.
-use Rattle.std.proofs.Common.{◌≡◌, ◌≢◌, ◌∙◌, refl, sym, ap, subst, ⊎_elim, inl, inr, ◌⊎◌, ℕ, ◌<◌, ◌≤◌, List, [], ◌∷◌, ◌++◌, Option, arith}
+use Rattle.std.proofs.Common.{◌≡◌, ◌≢◌, ◌∙◌, sym, ap, subst, ⊎_elim, inl, inr, ◌⊎◌, ℕ, ◌<◌, ◌≤◌, List, ◌∷◌, arith}
 use Rattle.std.proofs.lemmas.Bool.{cases_eq}
 use Rattle.hc_base.specs.Lookup.{Among, but}
 use Rattle.hc_base.specs.Words.{IsSeatWord, seat_word}

@@ -1,5 +1,5 @@
 -- How holders of pages go on: a step leaves stages and hands, or changes those of one seat.
-use Rattle.std.proofs.Common.{◌≡◌, ap, subst, sym, inl, ℕ, List, [], ◌∷◌, refl}
+use Rattle.std.proofs.Common.{◌≡◌, subst, sym, inl, ℕ, List, [], ◌∷◌, refl}
 use Rattle.hc_base.specs.Lookup.{Among, but}
 use Rattle.hc_base.proofs.Lookups.{each_but}
 use Rattle.hc_base.specs.declared.seat_word.SeatWord.{SeatWord}

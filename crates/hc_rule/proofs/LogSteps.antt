@@ -1,17 +1,16 @@
 -- How accounts and the log go on at a load of the log's end: a transaction begins, or proposes the next number.
-use Rattle.std.proofs.Common.{◌≡◌, ◌≢◌, ◌∙◌, refl, sym, ap, subst, ⊎_elim, inl, inr, ◌⊎◌, true≢false, ℕ, ◌+◌, ◌<◌, ◌≤◌, true, false, List, [], ◌∷◌, Option, arith}
+use Rattle.std.proofs.Common.{◌≡◌, ◌≢◌, ◌∙◌, refl, sym, ap, subst, ⊎_elim, inl, inr, true≢false, ℕ, ◌+◌, ◌≤◌, true, false, List, [], ◌∷◌, arith}
 use Rattle.hc_base.specs.Lookup.{Among, but}
 use Rattle.hc_base.specs.declared.seat_word.SeatWord.{SeatWord}
 use Rattle.hc_base.specs.declared.seat_word.SeatWord.TheVariants as seat
 use Rattle.hc_base.specs.declared.tid_word.TidWord.{TidWord}
 use Rattle.hc_base.specs.declared.tid_word.TidWord.TheVariants as tid
-use Rattle.hc_base.proofs.Lookups.{but-same, but-other, each_old, each_either, each_grown, grown_here, new_here, rest_here, others_here, old_there}
+use Rattle.hc_base.proofs.Lookups.{each_old, each_either, each_grown, grown_here, new_here, rest_here, others_here, old_there}
 use Rattle.hc_core.specs.Account.{Txn, IsIdle, WhenOpen, begun_at}
 use Rattle.hc_core.specs.Sound.{AreSound}
 use Rattle.hc_core.proofs.Counted.{no_more}
 use Rattle.hc_core.proofs.Ordered.{placed_drew}
 use Rattle.hc_core.proofs.Kept.Begin.{kept_begin}
-use Rattle.hc_core.proofs.Kept.Propose.{kept_propose}
 use Rattle.hc_rule.specs.CommitLog.{IsLogged}
 use Rattle.hc_rule.specs.Stages.{IsStage}
 use Rattle.hc_rule.specs.TidWords.{Shows, AreWorded, open_id}

@@ -1,13 +1,11 @@
 -- What the rule says of the seat of a connection, by its view.
-use Rattle.std.proofs.Common.{◌≡◌, ◌≢◌, ◌∙◌, refl, sym, ap, subst, ⊎_elim, inl, inr, ◌⊎◌, ℕ, ◌+◌, ◌-◌, ◌<◌, ◌≤◌, List, arith}
+use Rattle.std.proofs.Common.{◌≡◌, ◌≢◌, ◌∙◌, sym, ap, subst, inl, inr, ℕ, ◌+◌, ◌-◌, ◌<◌, ◌≤◌, arith}
 use Rattle.std.proofs.lemmas.Bool.{cases_lt}
 use Rattle.hc_base.specs.Lookup.{Among}
-use Rattle.hc_core.specs.Account.{Txn, txns}
-use Rattle.hc_core.specs.declared.account.Entry.{Entry}
+use Rattle.hc_core.specs.Account.{txns}
 use Rattle.hc_rule.specs.declared.view.View.{View}
 use Rattle.hc_rule.specs.declared.view.Role.{Role}
 use Rattle.hc_rule.specs.declared.view.Role.TheVariants.{Connection}
-use Rattle.hc_rule.specs.declared.view.Told.{Told}
 use Rattle.hc_rule.specs.declared.view.SeenWord.{SeenWord}
 use Rattle.hc_rule.specs.declared.view.SeenPlace.{SeenPlace}
 use Rattle.hc_rule.specs.Views.{Knowledge, knowledge_of}

@@ -1,10 +1,11 @@
 -- How page states go on: a page is taken or given back.
-use Rattle.std.proofs.Common.{◌≡◌, ◌≢◌, ◌∙◌, refl, sym, ap, subst, inl, inr, ⊎_elim, ℕ, ◌^◌, ◌<◌, List, [], ◌∷◌, cond, eq-eqb, ne_eqb, arith}
+use Rattle.std.proofs.Common.{◌≡◌, ◌≢◌, ◌∙◌, refl, sym, ap, subst, inl, inr, ⊎_elim, ℕ, ◌^◌, ◌<◌, Option, List, [], ◌∷◌, cond, eq-eqb, ne_eqb, arith}
 use Rattle.std.proofs.lemmas.Bool.{cases_eq}
 use Rattle.hc_base.specs.Lookup.{Among, but}
 use Rattle.hc_base.proofs.Lookups.{but-same, but-other, each_but}
 use Rattle.hc_base.specs.Words.{IsPageWord, page_word, map_word}
 use Rattle.hc_base.specs.Layout.{HasContent}
+use Rattle.hc_base.specs.declared.numbers.Tid.{Tid}
 use Rattle.hc_base.specs.declared.page_word.PageWord.TheVariants as word
 use Rattle.hc_base.specs.declared.map_word.MapWord.TheVariants as mapped
 use Rattle.hc_rule.specs.declared.view.Role.{Role}
@@ -65,7 +66,7 @@ one_owner a b (Limbo stamp) one other = absurd one
 
 -- a seat takes a free page
 module _ (state : ℕ → State) (page map : ℕ → ℕ) (role : ℕ → Role) (hand : ℕ → List Row) (claims : ℕ → List Claim)
-    (h : IsStated state page map role hand claims) (id p conn next : ℕ) (words : List ℕ)
+    (h : IsStated state page map role hand claims) (id p conn next : ℕ) (own : Option Tid) (words : List ℕ)
     (free : state p ≡ Free) (mine : role id ≡ Connection conn) (small : conn < 2 ^ 8) (short : next < 2 ^ 32) where
   abbrev after : ℕ → State
   after = but state p (Owned conn next)
@@ -80,10 +81,10 @@ module _ (state : ℕ → State) (page map : ℕ → ℕ) (role : ℕ → Role) 
   still : (i : ℕ) (x : Row) → Among x (hand i) → Among x (hands i)
   still i x there = each_but hand id (row_of p next words ∷ hand id) (λ j xs. Among x (hand j) → Among x xs) (λ was. inr was) (λ j differ was. was) i there
 
-  still_claimed : (i q : ℕ) → HasClaimed q (claims i) → HasClaimed q (but claims id (claim_of p ∷ claims id) i)
-  still_claimed i q has = each_but claims id (claim_of p ∷ claims id) (λ j xs. HasClaimed q (claims j) → HasClaimed q xs) (λ was. (was.0, inr was.1, was.2)) (λ j differ was. was) i has
+  still_claimed : (i q : ℕ) → HasClaimed q (claims i) → HasClaimed q (but claims id (claim_of own p ∷ claims id) i)
+  still_claimed i q has = each_but claims id (claim_of own p ∷ claims id) (λ j xs. HasClaimed q (claims j) → HasClaimed q xs) (λ was. (was.0, inr was.1, was.2)) (λ j differ was. was) i has
 
-  pub stated_take : IsStated (but state p (Owned conn next)) (but page p (page_word (word.Owned conn next))) map role (but hand id (row_of p next words ∷ hand id)) (but claims id (claim_of p ∷ claims id))
+  pub stated_take : IsStated (but state p (Owned conn next)) (but page p (page_word (word.Owned conn next))) map role (but hand id (row_of p next words ∷ hand id)) (but claims id (claim_of own p ∷ claims id))
   stated_take = record {
     form = each_but state p (Owned conn next) (λ q s. IsPageWord (form_of s)) (small, short) (λ q differ. h.form q);
     word = λ q.
@@ -110,8 +111,8 @@ module _ (state : ℕ → State) (page map : ℕ → ℕ) (role : ℕ → Role) 
         (λ is. (id, row_of p next words, subst (λ k. role id ≡ Connection k) is mine, subst (λ xs. Among (row_of p next words) xs) (sym (but-same hand id (row_of p next words ∷ hand id))) (inl refl), refl))
         (λ n differ is. let was = h.holder n c is in (was.0, was.1, was.2, still was.0 was.1 was.3, was.4))
         q;
-    claimed = λ q. each_but state p (Owned conn next) (λ n s. 2 < n → s ≢ Free → (i : ℕ) × HasClaimed n (but claims id (claim_of p ∷ claims id) i))
-        (λ far taken. (id, subst (λ xs. HasClaimed p xs) (sym (but-same claims id (claim_of p ∷ claims id))) (claim_of p, inl refl, refl)))
+    claimed = λ q. each_but state p (Owned conn next) (λ n s. 2 < n → s ≢ Free → (i : ℕ) × HasClaimed n (but claims id (claim_of own p ∷ claims id) i))
+        (λ far taken. (id, subst (λ xs. HasClaimed p xs) (sym (but-same claims id (claim_of own p ∷ claims id))) (claim_of own p, inl refl, refl)))
         (λ n differ far taken. let was = h.claimed n far taken in (was.0, still_claimed was.0 n was.1))
         q;
   }

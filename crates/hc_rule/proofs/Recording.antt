@@ -1,5 +1,5 @@
 -- What a seat learns of transactions and the log, where no word changes.
-use Rattle.std.proofs.Common.{◌≡◌, ◌∙◌, refl, sym, ap, subst, ℕ, ◌≤◌, List}
+use Rattle.std.proofs.Common.{◌≡◌, ◌∙◌, sym, ap, subst, ℕ, ◌≤◌, List}
 use Rattle.hc_base.specs.Lookup.{Among, but}
 use Rattle.hc_base.proofs.Lookups.{each_but}
 use Rattle.hc_core.specs.Account.{Txn}

@@ -12,7 +12,7 @@ use Rattle.hc_rule.specs.declared.view.View.{View}
 use Rattle.hc_rule.specs.declared.view.Role.{Role}
 use Rattle.hc_rule.specs.declared.view.Row.{Row}
 use Rattle.hc_rule.specs.declared.view.Role.TheVariants.{Dealer, Connection, Nobody}
-use Rattle.hc_rule.specs.Views.{Knowledge, knowledge_of, known, nobody, first_view}
+use Rattle.hc_rule.specs.Views.{knowledge_of, known, nobody, first_view}
 use Rattle.hc_rule.specs.States.{State, Free, Owned, Ready, Named, Replaced, Pending, Limbo, form_of, IsKept, IsOwnedBy, HasClaimed, IsStated}
 use Rattle.hc_rule.specs.Reach.{IsReached}
 use Rattle.hc_rule.specs.Seats.{IsDealt}

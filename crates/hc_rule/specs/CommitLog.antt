@@ -1,6 +1,6 @@
 -- The commit log: the words of commit numbers are the ids of the committed transactions, up to the first empty one, and with
 -- the transactions of all accounts they are sound.
-use Rattle.std.specs.Prelude.{◌≡◌, ◌≢◌, ℕ, ◌+◌, ◌<◌, ◌≤◌, List}
+use Rattle.std.specs.Prelude.{◌≡◌, ℕ, ◌+◌, ◌<◌, ◌≤◌, List}
 use Rattle.hc_base.specs.Lookup.{Among}
 use Rattle.hc_core.specs.Account.{Txn}
 use Rattle.hc_core.specs.Sound.{AreSound}

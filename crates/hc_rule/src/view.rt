@@ -43,7 +43,7 @@ pub enum Claimed {
     Number(Logical),
 }
 
-/// What was claimed for a transaction, where one had drawn its id.
+/// What was claimed, and the id of the transaction that it was claimed for, where that had drawn one.
 #[derive(Drop)]
 pub struct Claim {
     pub tid: Option<Tid>,
@@ -97,7 +97,7 @@ pub struct View {
     pub pending: LinkedList<Phys>,
     /// The logical numbers in its hand. No step fills this list yet.
     pub numbers: LinkedList<Logical>,
-    /// The words of pages, as its steps found them.
+    /// The words of pages, as its steps found them, and those of ids and of the log that they found empty.
     pub found: LinkedList<Found>,
     /// What it claimed.
     pub claimed: LinkedList<Claim>,

@@ -1,3 +1,4 @@
 pub mod Hints
+pub mod Own
 pub mod Same
 pub mod Seated

@@ -1,10 +1,12 @@
 //! Steps on the word of a commit number.
 ghost use Rattle.std.specs.Prelude.{◌≡◌, ◌≢◌, ◌<◌, ◌≤◌, IfSome, IfNone, IfOk, IfErr};
-ghost use Rattle.hc_rows.specs.Places.{HasPlace};
+ghost use Rattle.hc_rows.specs.Places.{HasPlace, log_at};
 ghost use Rattle.hc_rule.specs.Views.{bare};
 ghost use Rattle.hc_rule.specs.declared.view.Role.TheVariants.{Connection};
+ghost use Rattle.hc_rule.specs.Kinds.LoadPage.{with_found};
 ghost use Rattle.hc_rule.specs.Kinds.LoadLog.{Looking, Looks, LogLoad, LoadsLog, Asks, at_end, later, with_place};
 ghost use Rattle.hc_rule.specs.Kinds.WinLog.{Winning, MayWin, WinsLog, won_by, lost_to};
+ghost use Rattle.hc_steps.specs.Own.{own_win};
 ghost use Rattle.hc_steps.specs.Same.{IsSame};
 ghost use Rattle.hc_steps.specs.Seated.{IsSeated};
 
@@ -29,7 +31,7 @@ struct Loads<N> {
 }
 
 impl<N: Looked> Play<(), View> for Loads<N> {
-    ghost then = { λ step before found after. LoadsLog N.load before.0 found after };
+    ghost then = { λ step before found after. LoadsLog step.word N.load before.0 found after };
 }
 
 fn load_log_as<N: Looked>(table: &Words, layout: &Layout, conn: u8, seat: &mut Token, c: Cid) -> u64
@@ -39,7 +41,7 @@ fn load_log_as<N: Looked>(table: &Words, layout: &Layout, conn: u8, seat: &mut T
     requires picked { (N.load.conn ≡ conn) × (N.load.c ≡ c.0) × (N.load.last ≡ layout.now.transactions) }
     requires asked { Asks N.load.kind c.0 seat.old.me.0 }
     ensures table { seat.new.table_id ≡ seat.old.table_id }
-    ensures told { LoadsLog N.load seat.old.me.0 result seat.new.me }
+    ensures told { LoadsLog (log_at layout.now c.0) N.load seat.old.me.0 result seat.new.me }
 {
     table.load::<Loads<N>>(seat, layout.log_at(c) as usize)
 }
@@ -60,14 +62,14 @@ impl<'a> Grip<'a> {
         self.seen
     }
 
-    /// Loads the word of a commit number: the id of the transaction that has it, which the seat notes, or `None` where the
-    /// log ends before it. A caller that has seen all numbers before may begin a transaction there, or propose the number:
-    /// the account of the connection says so then.
+    /// Loads the word of a commit number: the id of the transaction that has it, or `None` where the log ends before it. The
+    /// seat notes what it found. A caller that has seen all numbers before may begin a transaction there, or propose the
+    /// number: the account of the connection says so then.
     pub fn load_log(&mut self, c: Cid) -> Option<Tid>
         ghost kind: { Looking }
         requires place { HasPlace self.old.layout c.0 }
         requires asked { Asks kind c.0 self.old.seat.me.0 }
-        ensures empty { IfNone result ((self.old.seat.me.0.seen.0 < c.0) × (self.new.seat.me ≡ bare (at_end kind self.old.conn self.old.seat.me.0))) }
+        ensures empty { IfNone result ((self.old.seat.me.0.seen.0 < c.0) × (self.new.seat.me ≡ bare (at_end kind self.old.conn (with_found (log_at self.old.layout c.0) 0 self.old.seat.me.0)))) }
         ensures taken { IfSome result (λ t. (t.0 ≢ 0) × (t.0 ≤ self.old.layout.transactions) × (self.new.seat.me ≡ bare (with_place c.0 t.0 self.old.seat.me.0))) }
         ensures same { IsSame self.old self.new }
     {
@@ -117,16 +119,17 @@ fn win_log_as<N: Wins>(
 }
 
 impl<'a> Grip<'a> {
-    /// Exchanges the word of the commit number that the transaction proposes, where it is empty, by its id `t`: it is committed
+    /// Exchanges the word of the commit number that the transaction proposes, where it is empty, by its own id: it is committed
     /// then, at that number. Else `Err` has the id of the transaction that has the number, which the seat notes, and the
     /// proposal is void.
-    pub fn win_log(&mut self, t: Tid, c: Cid) -> Result<(), Tid>
+    pub fn win_log(&mut self, c: Cid) -> Result<(), Tid>
         requires place { HasPlace self.old.layout c.0 }
-        requires may { MayWin (record { conn = self.old.conn; c = c.0; id = t.0; last = self.old.layout.transactions }) self.old.seat.me.0 }
-        ensures won { IfOk result (λ _. self.new.seat.me ≡ bare (won_by (record { conn = self.old.conn; c = c.0; id = t.0; last = self.old.layout.transactions }) self.old.seat.me.0)) }
-        ensures lost { IfErr result (λ other. (other.0 ≢ 0) × (other.0 ≤ self.old.layout.transactions) × (self.new.seat.me ≡ bare (lost_to (record { conn = self.old.conn; c = c.0; id = t.0; last = self.old.layout.transactions }) other.0 self.old.seat.me.0))) }
+        requires may { MayWin (own_win self.old.conn c.0 self.old.layout.transactions self.old.seat.me.0) self.old.seat.me.0 }
+        ensures won { IfOk result (λ _. self.new.seat.me ≡ bare (won_by (own_win self.old.conn c.0 self.old.layout.transactions self.old.seat.me.0) self.old.seat.me.0)) }
+        ensures lost { IfErr result (λ other. (other.0 ≢ 0) × (other.0 ≤ self.old.layout.transactions) × (self.new.seat.me ≡ bare (lost_to (own_win self.old.conn c.0 self.old.layout.transactions self.old.seat.me.0) other.0 self.old.seat.me.0))) }
         ensures same { IsSame self.old self.new }
     {
+        let t = self.own_tid();
         let found = win_log_as::<Brand>(self.table, &self.layout, self.conn, &mut self.seat, t, c);
         self.seen = greater(self.seen, c);
         match found {

@@ -100,6 +100,7 @@ impl Region {
             conn: dealt as u8,
             hint: first_hint(&self.layout, dealt),
             seen: Cid(0),
+            own: None,
             seat,
         }
     }

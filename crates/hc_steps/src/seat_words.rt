@@ -97,5 +97,6 @@ impl<'a> Grip<'a> {
             &mut self.seat,
             SeatWord::Idle,
         );
+        self.own = None;
     }
 }

@@ -2,10 +2,11 @@
 ghost use Rattle.std.specs.Prelude.{◌≡◌, ◌<◌, ◌≤◌, ◌^◌, ℕ};
 ghost use Rattle.hc_base.specs.Words.{IsTidWord, tid_word};
 ghost use Rattle.hc_base.specs.declared.tid_word.TidWord.TheVariants.{Empty};
-ghost use Rattle.hc_rows.specs.Places.{HasTid};
+ghost use Rattle.hc_rows.specs.Places.{HasTid, tid_at};
 ghost use Rattle.hc_rule.specs.Views.{bare};
 ghost use Rattle.hc_rule.specs.declared.view.Role.TheVariants.{Connection};
 ghost use Rattle.hc_rule.specs.Kinds.TidWord.{saw, said, LoadsTid, Drawing, MayDraw, DrawsTid, DrewTid, TidStore, MayStoreTid, StoresTid};
+ghost use Rattle.hc_steps.specs.Own.{own_store};
 ghost use Rattle.hc_steps.specs.Same.{IsSame};
 ghost use Rattle.hc_steps.specs.Seated.{IsSeated};
 
@@ -30,7 +31,7 @@ struct Loads<N> {
 }
 
 impl<N: Looked> Play<(), View> for Loads<N> {
-    ghost then = { λ step before found after. LoadsTid N.id before.0 found after };
+    ghost then = { λ step before found after. LoadsTid step.word N.id before.0 found after };
 }
 
 fn load_tid_as<N: Looked>(table: &Words, layout: &Layout, conn: u8, seat: &mut Token, t: Tid) -> u64
@@ -39,7 +40,7 @@ fn load_tid_as<N: Looked>(table: &Words, layout: &Layout, conn: u8, seat: &mut T
     requires tid { HasTid layout.now t.0 }
     requires picked { N.id ≡ t.0 }
     ensures table { seat.new.table_id ≡ seat.old.table_id }
-    ensures told { LoadsTid t.0 seat.old.me.0 result seat.new.me }
+    ensures told { LoadsTid (tid_at layout.now t.0) t.0 seat.old.me.0 result seat.new.me }
 {
     table.load::<Loads<N>>(seat, layout.tid_at(t) as usize)
 }
@@ -58,7 +59,7 @@ struct Draws<N> {
 }
 
 impl<N: Drawn> Play<(), View> for Draws<N> {
-    ghost then = { λ step before found after. DrawsTid N.drawing before.0 found after };
+    ghost then = { λ step before found after. DrawsTid step.word N.drawing before.0 found after };
 }
 
 fn draw_as<N: Drawn>(
@@ -76,7 +77,7 @@ fn draw_as<N: Drawn>(
     requires may { MayDraw (record { conn = conn; id = t.0; ord = ord }) seat.old.me.0 }
     requires picked { N.drawing ≡ record { conn = conn; id = t.0; ord = ord } }
     ensures table { seat.new.table_id ≡ seat.old.table_id }
-    ensures told { DrawsTid (record { conn = conn; id = t.0; ord = ord }) seat.old.me.0 result seat.new.me }
+    ensures told { DrawsTid (tid_at layout.now t.0) (record { conn = conn; id = t.0; ord = ord }) seat.old.me.0 result seat.new.me }
 {
     let new = TidWord::Live {
         conn: u32::from(conn),
@@ -124,11 +125,12 @@ fn store_tid_as<N: Saying>(
 }
 
 impl<'a> Grip<'a> {
-    /// Loads the word of an id. The seat notes what it found, unless nobody has drawn the id.
+    /// Loads the word of an id. The seat notes what it found: the word, or, where nobody has drawn the id, that its place is
+    /// empty.
     pub fn load_tid(&mut self, t: Tid) -> TidWord
         requires tid { HasTid self.old.layout t.0 }
         ensures form { IsTidWord result }
-        ensures seat { self.new.seat.me ≡ bare (saw t.0 result self.old.seat.me.0) }
+        ensures seat { self.new.seat.me ≡ bare (saw (tid_at self.old.layout t.0) t.0 result self.old.seat.me.0) }
         ensures same { IsSame self.old self.new }
     {
         let word = load_tid_as::<Brand>(self.table, &self.layout, self.conn, &mut self.seat, t);
@@ -147,17 +149,21 @@ impl<'a> Grip<'a> {
         ensures same { IsSame self.old self.new }
     {
         let found = draw_as::<Brand>(self.table, &self.layout, self.conn, &mut self.seat, t, ord);
-        found == 0
+        if found == 0 {
+            self.own = Some(t);
+            return true;
+        }
+        false
     }
 
-    /// Stores the word of the id `t` that the seat has drawn: that it validates the number that it proposes, its commit
+    /// Stores the word of the id that the seat has drawn: that it validates the number that it proposes, its commit
     /// number, or that it is rolled back.
-    pub fn store_tid(&mut self, t: Tid, w: TidWord)
-        requires tid { HasTid self.old.layout t.0 }
-        requires may { MayStoreTid (record { conn = self.old.conn; id = t.0; word = w }) self.old.seat.me.0 }
+    pub fn store_tid(&mut self, w: TidWord)
+        requires may { MayStoreTid (own_store self.old.conn w self.old.seat.me.0) self.old.seat.me.0 }
         ensures seat { self.new.seat.me ≡ bare (said w self.old.seat.me.0) }
         ensures same { IsSame self.old self.new }
     {
+        let t = self.own_tid();
         store_tid_as::<Brand>(self.table, &self.layout, self.conn, &mut self.seat, t, w);
     }
 }

@@ -1,9 +1,10 @@
 -- Each stage lets the seat make its next step, and the step leads to the next stage.
-use Rattle.std.proofs.Common.{◌≡◌, ◌≢◌, ◌∙◌, refl, sym, ap, subst, ⊎_elim, inl, inr, ◌⊎◌, true≢false, ℕ, ◌+◌, ◌<◌, ◌≤◌, ltb, Bool, true, false, ◌&&◌, List, [], ◌∷◌, arith}
+use Rattle.std.proofs.Common.{◌≡◌, ◌≢◌, ◌∙◌, refl, sym, ap, subst, ⊎_elim, inl, inr, ◌⊎◌, true≢false, ℕ, ◌+◌, ◌<◌, ◌≤◌, ltb, Bool, true, false, ◌&&◌, Option, Some, List, [], ◌∷◌, arith}
 use Rattle.std.proofs.lemmas.Bool.{cases_Bool, cases_lt, lt-ltb, le-ltb}
 use Rattle.hc_base.specs.Lookup.{Among}
 use Rattle.hc_base.specs.Words.{IsTidWord}
 use Rattle.hc_base.specs.declared.numbers.Cid.{Cid}
+use Rattle.hc_base.specs.declared.numbers.Tid.{Tid}
 use Rattle.hc_base.specs.declared.seat_word.SeatWord.TheVariants as seat
 use Rattle.hc_base.specs.declared.tid_word.TidWord.{TidWord}
 use Rattle.hc_base.specs.declared.tid_word.TidWord.TheVariants as tid
@@ -12,11 +13,13 @@ use Rattle.hc_core.specs.Diary.{entry_of}
 use Rattle.hc_core.specs.declared.event.Event.TheVariants.{Draw, End, Propose}
 use Rattle.hc_core.specs.declared.outcome.Outcome.TheVariants.{Done, Drew, Proposed as WasProposed}
 use Rattle.atomic_table.specs.Table.{Me}
+use Rattle.hc_rows.specs.declared.layout.Layout.{Layout}
 use Rattle.hc_rule.specs.declared.view.View.{View}
 use Rattle.hc_rule.specs.Kinds.LoadLog.{own_txns, later}
 use Rattle.hc_rule.specs.Kinds.StoreSeat.{MayStand, stood}
-use Rattle.hc_rule.specs.Kinds.TidWord.{IsRolledBack, saw, MayDraw, DrewTid, MaySay, MayStoreTid, said}
+use Rattle.hc_rule.specs.Kinds.TidWord.{IsRolledBack, with_seen, MayDraw, DrewTid, MaySay, MayStoreTid, said}
 use Rattle.hc_rule.specs.Kinds.WinLog.{Winning, MayWin, won_by, lost_to, decided, lost}
+use Rattle.hc_steps.specs.Own.{own_id, own_store, own_win}
 use Rattle.hc_tidlog.specs.Looking.{MayPropose, Proposed}
 use Rattle.hc_tidlog.specs.Seeking.{CanDraw, DrewNext, FoundDrawn}
 use Rattle.hc_pool.specs.Registering.{IsIdleSeat, Registers}
@@ -61,8 +64,8 @@ done_more one other (t ∷ ts) more done = let d = done_first one t ts done in d
 pub idle_seat : (number : ℕ) (v : View) → MayStart number v → IsIdleSeat v
 idle_seat number v may = (may.0, done_idle number (own_txns v) may.1)
 
-pub started : (conn number : ℕ) (v : View) (s : Cid) (w : View) → MayStart number v → Registers conn v s w → w.pages ≡ [] → HasStarted number w
-started conn number v s w may registers none =
+pub started : (y : Layout) (conn number : ℕ) (v : View) (s : Cid) (w : View) → MayStart number v → Registers y conn v s w → w.pages ≡ [] → HasStarted number w
+started y conn number v s w may registers none =
     let began = registers.1 in record {
       none = none;
       snapshot = s;
@@ -73,7 +76,7 @@ started conn number v s w may registers none =
             ap own_txns registers.2
             ∙ (ap own_txns began.3
             ∙ (ap (λ (n : Cid). begun_at n.0 ∷ own_txns began.0) (sym began.2)
-            ∙ ap (λ ts. begun_at s.0 ∷ ts) (ap own_txns began.1.is)));
+            ∙ ap (λ ts. begun_at s.0 ∷ ts) (ap own_txns began.1.0.is)));
         done = may.1;
       };
     }
@@ -102,8 +105,8 @@ can_draw number v ord started = record {
       (subst (Among t) started.newest.is there);
 }
 
-pub drawn : (conn number id : ℕ) (v w : View) → HasStarted number v → DrewNext conn number v id w → IsDrawn id number 0 0 w
-drawn conn number id v w started drew_next =
+pub drawn : (y : Layout) (conn number id : ℕ) (v w : View) → HasStarted number v → DrewNext y conn number v id w → IsDrawn id number 0 0 w
+drawn y conn number id v w started drew_next =
     let is = drew_next.4 in record {
       none = ap (λ (x : View). x.pages) is ∙ (ap (λ (x : View). x.pages) drew_next.3.is ∙ started.none);
       some = λ none. omega (arith, none, drew_next.2);
@@ -123,30 +126,26 @@ may_draw_first conn number v ord started =
     let can = can_draw number v ord started in
     record { snapshot = can.snapshot; reads = can.reads; undrawn = can.undrawn; ord = can.ord; above = can.above; follows = inl refl }
 
-still_saw : (number id : ℕ) (f : TidWord) (v : View) → HasStarted number v → HasStarted number (saw id f v)
-still_saw number id tid.Empty v s = s
-still_saw number id (tid.Live c o) v s = record { none = s.none; snapshot = s.snapshot; reads = s.reads; newest = record { rest = s.newest.rest; is = s.newest.is; done = s.newest.done } }
-still_saw number id (tid.Validating c o n) v s = record { none = s.none; snapshot = s.snapshot; reads = s.reads; newest = record { rest = s.newest.rest; is = s.newest.is; done = s.newest.done } }
-still_saw number id (tid.Committed c o n) v s = record { none = s.none; snapshot = s.snapshot; reads = s.reads; newest = record { rest = s.newest.rest; is = s.newest.is; done = s.newest.done } }
-still_saw number id (tid.RolledBack c o) v s = record { none = s.none; snapshot = s.snapshot; reads = s.reads; newest = record { rest = s.newest.rest; is = s.newest.is; done = s.newest.done } }
+still_seen : (number id : ℕ) (f : TidWord) (v : View) → HasStarted number v → HasStarted number (with_seen id f v)
+still_seen number id f v s = record { none = s.none; snapshot = s.snapshot; reads = s.reads; newest = record { rest = s.newest.rest; is = s.newest.is; done = s.newest.done } }
 
-pub drew_first : (conn number : ℕ) (v : View) (b : Bool) (m : Me Unit View) → HasStarted number v → DrewTid (record { conn = conn; id = 1; ord = number }) v b m → DrewFirst number b m.0
-drew_first conn number v true m started told = drawn conn number 1 v m.0 started (0, v, refl, record { more = []; is = refl; found = inl refl }, ap (λ (x : Me Unit View). x.0) told)
-drew_first conn number v false m started told = subst (HasStarted number) (sym (ap (λ (x : Me Unit View). x.0) told.3)) (still_saw number 1 told.0 v started)
+pub drew_first : (y : Layout) (conn number : ℕ) (v : View) (b : Bool) (m : Me Unit View) → HasStarted number v → DrewTid (record { conn = conn; id = 1; ord = number }) v b m → DrewFirst number b m.0
+drew_first y conn number v true m started told = drawn y conn number 1 v m.0 started (0, v, refl, record { more = []; empty = []; is = refl; found = inl refl }, ap (λ (x : Me Unit View). x.0) told)
+drew_first y conn number v false m started told = subst (HasStarted number) (sym (ap (λ (x : Me Unit View). x.0) told.3)) (still_seen number 1 told.0 v started)
 
 -- where no id is left nothing else is new
-pub still_started : (number last : ℕ) (v w : View) → HasStarted number v → FoundDrawn last v w → HasStarted number w
-still_started number last v w started found = subst (HasStarted number) (sym found.1) (record { none = started.none; snapshot = started.snapshot; reads = started.reads; newest = record { rest = started.newest.rest; is = started.newest.is; done = started.newest.done } })
+pub still_started : (y : Layout) (number last : ℕ) (v w : View) → HasStarted number v → FoundDrawn y last v w → HasStarted number w
+still_started y number last v w started found = subst (HasStarted number) (sym found.2) (record { none = started.none; snapshot = started.snapshot; reads = started.reads; newest = record { rest = started.newest.rest; is = started.newest.is; done = started.newest.done } })
 
 pub may_propose : (id number c : ℕ) (v : View) → IsDrawn id number c 0 v → MayPropose v
 may_propose id number c v d = when_open number (txn_of d.snapshot id number c 0) v (λ t. (t.id ≢ 0) × (t.place ≡ 0)) d.newest refl (d.some, refl)
 
-pub proposed : (conn id number : ℕ) (v : View) (c : Cid) (w : View) → IsDrawn id number 0 0 v → Proposed conn v c w → IsDrawn id number c.0 0 w
-proposed conn id number v c w d p =
+pub proposed : (y : Layout) (conn id number : ℕ) (v : View) (c : Cid) (w : View) → IsDrawn id number 0 0 v → Proposed y conn v c w → IsDrawn id number c.0 0 w
+proposed y conn id number v c w d p =
     let u : View = p.0 in
-    let own : w.own ≡ v.own = ap (λ (x : View). x.own) p.3 ∙ ap (λ (x : View). x.own) p.1.is in
-    let word : w.word ≡ v.word = ap (λ (x : View). x.word) p.3 ∙ ap (λ (x : View). x.word) p.1.is in record {
-      none = ap (λ (x : View). x.pages) p.3 ∙ (ap (λ (x : View). x.pages) p.1.is ∙ d.none);
+    let own : w.own ≡ v.own = ap (λ (x : View). x.own) p.3 ∙ ap (λ (x : View). x.own) p.1.0.is in
+    let word : w.word ≡ v.word = ap (λ (x : View). x.word) p.3 ∙ ap (λ (x : View). x.word) p.1.0.is in record {
+      none = ap (λ (x : View). x.pages) p.3 ∙ (ap (λ (x : View). x.pages) p.1.0.is ∙ d.none);
       some = d.some;
       own = own ∙ d.own;
       snapshot = d.snapshot;
@@ -154,7 +153,7 @@ proposed conn id number v c w d p =
         rest = d.newest.rest;
         is =
             ap own_txns p.3
-            ∙ (ap (λ ts. after_entry (entry_of (Propose conn) (WasProposed (record { 0 = u.seen.0 + 1 }))) ts) (ap own_txns p.1.is ∙ d.newest.is)
+            ∙ (ap (λ ts. after_entry (entry_of (Propose conn) (WasProposed (record { 0 = u.seen.0 + 1 }))) ts) (ap own_txns p.1.0.is ∙ d.newest.is)
             ∙ ap (λ n. txn_of d.snapshot id number n 0 ∷ d.newest.rest) (sym p.2));
         done = d.newest.done;
       };
@@ -162,37 +161,41 @@ proposed conn id number v c w d p =
     }
 
 -- the number is the next after all that the seat has seen, which is not less than before
-pub next : (conn : ℕ) (v : View) (c : Cid) (w : View) → Proposed conn v c w → (c.0 ≡ w.seen.0 + 1) × (v.seen.0 ≤ w.seen.0)
-next conn v c w p =
+pub next : (y : Layout) (conn : ℕ) (v : View) (c : Cid) (w : View) → Proposed y conn v c w → (c.0 ≡ w.seen.0 + 1) × (v.seen.0 ≤ w.seen.0)
+next y conn v c w p =
     let same : w.seen.0 ≡ p.0.seen.0 = ap (λ (x : View). x.seen.0) p.3 in
-    let seen : p.0.seen.0 ≡ p.1.seen.0 = ap (λ (x : View). x.seen.0) p.1.is in
-    let least = p.1.least in
+    let seen : p.0.seen.0 ≡ p.1.0.seen.0 = ap (λ (x : View). x.seen.0) p.1.0.is in
+    let least = p.1.0.least in
     let number = p.2 in
     (omega (arith, same, number), omega (arith, same, seen, least))
 
+-- its own id, as a number
+own_is : (id : ℕ) (v : View) → v.own ≡ Some (record { 0 = id }) → v.own ≡ Some (record { 0 = own_id v.own })
+own_is id v own = subst (λ (o : Option Tid). o ≡ Some (record { 0 = own_id o })) (sym own) refl
+
 -- the word of the id may say so
 pub may_validate : (conn id number : ℕ) (c : Cid) (v : View) → IsDrawn id number c.0 0 v → IsTidWord (tid.Validating conn number c)
-    → MayStoreTid (record { conn = conn; id = id; word = tid.Validating conn number c }) v
+    → MayStoreTid (own_store conn (tid.Validating conn number c) v) v
 may_validate conn id number c v d form = record {
-  own = d.own;
+  own = own_is id v d.own;
   says = when_open number (txn_of d.snapshot id number c.0 0) v (MaySay conn (tid.Validating conn number c)) d.newest refl (refl, refl, refl, refl);
   stays = d.stays;
   form = form;
 }
 
 pub may_commit : (conn id number : ℕ) (c : Cid) (v : View) → IsDrawn id number c.0 c.0 v → IsTidWord (tid.Committed conn number c)
-    → MayStoreTid (record { conn = conn; id = id; word = tid.Committed conn number c }) v
+    → MayStoreTid (own_store conn (tid.Committed conn number c) v) v
 may_commit conn id number c v d form = record {
-  own = d.own;
+  own = own_is id v d.own;
   says = when_open number (txn_of d.snapshot id number c.0 c.0) v (MaySay conn (tid.Committed conn number c)) d.newest refl (refl, refl, refl);
   stays = d.stays;
   form = form;
 }
 
 pub may_roll_back : (conn id number : ℕ) (v : View) → IsDrawn id number 0 0 v → IsTidWord (tid.RolledBack conn number)
-    → MayStoreTid (record { conn = conn; id = id; word = tid.RolledBack conn number }) v
+    → MayStoreTid (own_store conn (tid.RolledBack conn number) v) v
 may_roll_back conn id number v d form = record {
-  own = d.own;
+  own = own_is id v d.own;
   says = when_open number (txn_of d.snapshot id number 0 0) v (MaySay conn (tid.RolledBack conn number)) d.newest refl (refl, refl, refl, refl);
   stays = d.stays;
   form = form;
@@ -222,16 +225,16 @@ may_end id number c place f v w d is = subst (MayEnd number) (sym is) (record {
   newest = record { rest = d.newest.rest; is = d.newest.is; done = d.newest.done };
 })
 
-pub may_win : (conn last id number c : ℕ) (v : View) → Validates conn id number c v → MayWin (record { conn = conn; c = c; id = id; last = last }) v
+pub may_win : (conn last id number c : ℕ) (v : View) → Validates conn id number c v → MayWin (own_win conn c last v) v
 may_win conn last id number c v d = record {
-  own = d.0.own;
+  own = own_is id v d.0.own;
   ord = number;
   validating = d.1;
   ready = when_open number (txn_of d.0.snapshot id number c 0) v (λ t. (t.proposed ≡ c) × (t.place ≡ 0) × _) d.0.newest refl (refl, refl, λ read there. absurd there);
 }
 
-pub won : (w : Winning) (number : ℕ) (v after : View) → Validates w.conn w.id number w.c v → after ≡ won_by w v → IsDrawn w.id number w.c w.c after
-won w number v after d is = subst (IsDrawn w.id number w.c w.c) (sym is) (record {
+pub won : (w : Winning) (id number : ℕ) (v after : View) → Validates w.conn id number w.c v → after ≡ won_by w v → IsDrawn id number w.c w.c after
+won w id number v after d is = subst (IsDrawn id number w.c w.c) (sym is) (record {
   none = d.0.none;
   some = d.0.some;
   own = d.0.own;
@@ -240,8 +243,8 @@ won w number v after d is = subst (IsDrawn w.id number w.c w.c) (sym is) (record
   stays = d.0.stays;
 })
 
-pub was_lost : (w : Winning) (number n : ℕ) (v after : View) → Validates w.conn w.id number w.c v → after ≡ lost_to w n v → IsDrawn w.id number 0 0 after
-was_lost w number n v after d is = subst (IsDrawn w.id number 0 0) (sym is) (record {
+pub was_lost : (w : Winning) (id number n : ℕ) (v after : View) → Validates w.conn id number w.c v → after ≡ lost_to w n v → IsDrawn id number 0 0 after
+was_lost w id number n v after d is = subst (IsDrawn id number 0 0) (sym is) (record {
   none = d.0.none;
   some = d.0.some;
   own = d.0.own;

@@ -90,7 +90,7 @@ impl<'a> Lone<'a> {
     {
         let conn = u32::from(self.grip.conn);
         let ord = self.ord;
-        set_state(&mut self.grip, t, TidWord::Validating { conn, ord, c });
+        set_state(&mut self.grip, TidWord::Validating { conn, ord, c });
     }
 
     /// Wins the number, or loses it to another id and proposes nothing.
@@ -101,7 +101,7 @@ impl<'a> Lone<'a> {
         ensures lost { IfErr result (λ _. IsDrawn t.0 self.old.ord 0 0 self.new.grip.seat.me.0 × (c.0 ≤ self.new.grip.seat.me.0.seen.0)) }
         ensures same { IsSameLone self.old self.new }
     {
-        win(&mut self.grip, t, c)
+        win(&mut self.grip, c)
     }
 
     /// Says in the word of its id that it is committed at the number that it won, and ends it. The next one has the next
@@ -117,7 +117,7 @@ impl<'a> Lone<'a> {
     {
         let conn = u32::from(self.grip.conn);
         let ord = self.ord;
-        set_state(&mut self.grip, t, TidWord::Committed { conn, ord, c });
+        set_state(&mut self.grip, TidWord::Committed { conn, ord, c });
         self.end();
     }
 
@@ -132,7 +132,7 @@ impl<'a> Lone<'a> {
     {
         let conn = u32::from(self.grip.conn);
         let ord = self.ord;
-        set_state(&mut self.grip, t, TidWord::RolledBack { conn, ord });
+        set_state(&mut self.grip, TidWord::RolledBack { conn, ord });
         self.end();
     }
 

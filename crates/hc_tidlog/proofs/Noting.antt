@@ -14,6 +14,7 @@ use Rattle.hc_rule.specs.Seen.{IsAbove, IsTxn, Stays}
 use Rattle.hc_tidlog.specs.Noted.{HasNoted, HasFound, ShowsCommitted, ShowsRolledBack, IsNotBelow, ShowsUndecided, IsTrueOf, AreTrue, KeepsNotes}
 use Rattle.hc_rule.specs.Kinds.TidWord.{saw}
 use Rattle.hc_rule.specs.Kinds.LoadLog.{Looking, Looks, Begins, Proposes, at_end}
+use Rattle.hc_rule.specs.Kinds.LoadPage.{with_found}
 use Rattle.hc_rule.specs.Kinds.StorePage.{stored}
 use Rattle.hc_rule.specs.Kinds.StoreSeat.{stood}
 use Rattle.hc_base.specs.declared.page_word.PageWord.{PageWord}
@@ -101,17 +102,17 @@ module _ (last : ℕ) (seat_at tid_at log : ℕ → ℕ) (role : ℕ → Role) (
 pub keeps_all : (v w : View) → w.words ≡ v.words → w.places ≡ v.places → KeepsNotes v w
 keeps_all v w words places = (λ x there. subst (Among x) (sym words) there, λ x there. subst (Among x) (sym places) there)
 
-pub keeps_saw : (id : ℕ) (form : TidWord) (v : View) → KeepsNotes v (saw id form v)
-keeps_saw id tid.Empty v = (λ x there. there, λ x there. there)
-keeps_saw id (tid.Live conn ord) v = (λ x there. inr there, λ x there. there)
-keeps_saw id (tid.Validating conn ord c) v = (λ x there. inr there, λ x there. there)
-keeps_saw id (tid.Committed conn ord c) v = (λ x there. inr there, λ x there. there)
-keeps_saw id (tid.RolledBack conn ord) v = (λ x there. inr there, λ x there. there)
+pub keeps_saw : (place id : ℕ) (form : TidWord) (v : View) → KeepsNotes v (saw place id form v)
+keeps_saw place id tid.Empty v = (λ x there. there, λ x there. there)
+keeps_saw place id (tid.Live conn ord) v = (λ x there. inr there, λ x there. there)
+keeps_saw place id (tid.Validating conn ord c) v = (λ x there. inr there, λ x there. there)
+keeps_saw place id (tid.Committed conn ord c) v = (λ x there. inr there, λ x there. there)
+keeps_saw place id (tid.RolledBack conn ord) v = (λ x there. inr there, λ x there. there)
 
-pub keeps_at_end : (kind : Looking) (conn : ℕ) (v : View) → KeepsNotes v (at_end kind conn v)
-keeps_at_end Looks conn v = (λ x there. there, λ x there. there)
-keeps_at_end Begins conn v = (λ x there. there, λ x there. there)
-keeps_at_end Proposes conn v = (λ x there. there, λ x there. there)
+pub keeps_at_end : (kind : Looking) (conn place : ℕ) (v : View) → KeepsNotes v (at_end kind conn (with_found place 0 v))
+keeps_at_end Looks conn place v = (λ x there. there, λ x there. there)
+keeps_at_end Begins conn place v = (λ x there. there, λ x there. there)
+keeps_at_end Proposes conn place v = (λ x there. there, λ x there. there)
 
 pub keeps_stored : (p : ℕ) (form : PageWord) (v : View) → KeepsNotes v (stored p form v)
 keeps_stored p page.Free v = (λ x there. there, λ x there. there)

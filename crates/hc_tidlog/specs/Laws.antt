@@ -40,9 +40,9 @@ pub record NotesStay : Type 0 where
   pub take_page : (p next : ℕ) (row : List ℕ) (v : View) → KeepsNotes v (with_page p next row v)
   pub store_page : (p : ℕ) (form : PageWord) (v : View) → KeepsNotes v (stored p form v)
   pub store_row : (p word n : ℕ) (v : View) → KeepsNotes v (with_word p word n v)
-  pub load_log : (kind : Looking) (conn c id : ℕ) (v : View) → KeepsNotes v (at_end kind conn v) × KeepsNotes v (with_place c id v)
+  pub load_log : (kind : Looking) (conn place c id : ℕ) (v : View) → KeepsNotes v (at_end kind conn (with_found place 0 v)) × KeepsNotes v (with_place c id v)
   pub win_log : (w : Winning) (other : ℕ) (v : View) → KeepsNotes v (won_by w v) × KeepsNotes v (lost_to w other v)
-  pub load_tid : (id : ℕ) (form : TidWord) (v : View) → KeepsNotes v (saw id form v)
+  pub load_tid : (place id : ℕ) (form : TidWord) (v : View) → KeepsNotes v (saw place id form v)
   pub draw : (d : Drawing) (v : View) → KeepsNotes v (drew d v)
   pub store_tid : (form : TidWord) (v : View) → KeepsNotes v (said form v)
   pub store_seat : (form : SeatWord) (conn : ℕ) (v : View) → KeepsNotes v (stood form conn v)
@@ -52,7 +52,7 @@ pub record NotesStay : Type 0 where
 -- What `state_of` told is shown by every view that has its notes, with all that the seat had seen of the log before as the
 -- bound.
 abbrev pub WhatIsToldIsShown : Type 0
-WhatIsToldIsShown = (id : ℕ) (word : TidWord) (v w later : View) → Tells id word v w → KeepsNotes w later → Shows id word v.seen.0 later
+WhatIsToldIsShown = (y : Layout) (id : ℕ) (word : TidWord) (v w later : View) → Tells y id word v w → KeepsNotes w later → Shows id word v.seen.0 later
 
 -- where a seat has dealt so many others, the accounts of all with the words of the log are one sound machine
 abbrev pub AccountsAreOneMachine : Type 0

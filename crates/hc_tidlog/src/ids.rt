@@ -12,9 +12,9 @@ use hc_steps::Grip;
 /// this call found the last id drawn.
 pub fn draw_id(grip: &mut Grip<'_>, ord: u32) -> Result<Tid, Full>
     requires may { CanDraw ord grip.old.seat.me.0 }
-    ensures drew { IfOk result (λ t. HasTid grip.old.layout t.0 × DrewNext grip.old.conn ord grip.old.seat.me.0 t.0 grip.new.seat.me.0) }
+    ensures drew { IfOk result (λ t. HasTid grip.old.layout t.0 × DrewNext grip.old.layout grip.old.conn ord grip.old.seat.me.0 t.0 grip.new.seat.me.0) }
     ensures full { IfErr result (λ full. full ≡ Transactions grip.old.layout.transactions) }
-    ensures cause { IfErr result (λ _. FoundDrawn grip.old.layout.transactions grip.old.seat.me.0 grip.new.seat.me.0) }
+    ensures cause { IfErr result (λ _. FoundDrawn grip.old.layout grip.old.layout.transactions grip.old.seat.me.0 grip.new.seat.me.0) }
     ensures same { IsSame grip.old grip.new }
 {
     let last = grip.layout.transactions;
@@ -39,7 +39,7 @@ struct Span {
 // The greatest id that is found drawn, 0 where none is. The search begins at the number of commits that the seat has seen, since
 // as many ids at least are drawn.
 fn last_drawn(grip: &mut Grip<'_>) -> u32
-    ensures reached { Reached 0 result grip.old.seat.me.0 grip.new.seat.me.0 }
+    ensures reached { Reached grip.old.layout 0 result grip.old.seat.me.0 grip.new.seat.me.0 }
     ensures last { result ≤ grip.old.layout.transactions }
     ensures same { IsSame grip.old grip.new }
 {
@@ -50,12 +50,15 @@ fn last_drawn(grip: &mut Grip<'_>) -> u32
 
 // As many as the seat has seen committed, where that id is found drawn; else 0.
 fn first_drawn(grip: &mut Grip<'_>) -> u32
-    ensures reached { Reached 0 result grip.old.seat.me.0 grip.new.seat.me.0 }
+    ensures reached { Reached grip.old.layout 0 result grip.old.seat.me.0 grip.new.seat.me.0 }
     ensures last { result ≤ grip.old.layout.transactions }
     ensures same { IsSame grip.old grip.new }
 {
     let seen = grip.seen().0;
-    if seen > 0 && is_drawn(grip, Tid(seen)) {
+    if seen == 0 {
+        return 0;
+    }
+    if is_drawn(grip, Tid(seen)) {
         return seen;
     }
     0
@@ -64,7 +67,7 @@ fn first_drawn(grip: &mut Grip<'_>) -> u32
 // Looks at ids at distances 1, 2, 4 and so on, each from the last one that is drawn, up to one that is not or past the last.
 fn double(grip: &mut Grip<'_>, from: u32) -> Span
     requires from { from ≤ grip.old.layout.transactions }
-    ensures reached { Reached from result.low grip.old.seat.me.0 grip.new.seat.me.0 }
+    ensures reached { Reached grip.old.layout from result.low grip.old.seat.me.0 grip.new.seat.me.0 }
     ensures low { result.low < result.high }
     ensures high { result.high ≤ grip.old.layout.transactions + 1 }
     ensures same { IsSame grip.old grip.new }
@@ -90,7 +93,7 @@ fn double(grip: &mut Grip<'_>, from: u32) -> Span
 fn halve(grip: &mut Grip<'_>, span: Span) -> u32
     requires low { span.low < span.high }
     requires high { span.high ≤ grip.old.layout.transactions + 1 }
-    ensures reached { Reached span.low result grip.old.seat.me.0 grip.new.seat.me.0 }
+    ensures reached { Reached grip.old.layout span.low result grip.old.seat.me.0 grip.new.seat.me.0 }
     ensures last { result ≤ grip.old.layout.transactions }
     ensures same { IsSame grip.old grip.new }
 {
@@ -110,7 +113,7 @@ fn halve(grip: &mut Grip<'_>, span: Span) -> u32
 // Whether an id is drawn.
 fn is_drawn(grip: &mut Grip<'_>, t: Tid) -> bool
     requires tid { HasTid grip.old.layout t.0 }
-    ensures looked { LookedAt t.0 grip.old.seat.me.0 result grip.new.seat.me.0 }
+    ensures looked { LookedAt grip.old.layout t.0 grip.old.seat.me.0 result grip.new.seat.me.0 }
     ensures same { IsSame grip.old grip.new }
 {
     match grip.load_tid(t) {

@@ -1,16 +1,13 @@
 -- A load of the word of a commit number keeps the rule.
-use Rattle.std.proofs.Common.{◌≡◌, ◌≢◌, ◌∙◌, refl, sym, ap, subst, ⊎_elim, inl, inr, ◌⊎◌, ℕ, ◌+◌, ◌-◌, ◌<◌, ◌≤◌, Bool, true, false, cond, ltb, List, [], ◌∷◌, get_or, set, arith}
-use Rattle.std.proofs.lemmas.Bool.{cases_eq, cases_lt}
+use Rattle.std.proofs.Common.{◌≡◌, ◌≢◌, ◌∙◌, refl, sym, ap, subst, ⊎_elim, inl, inr, ℕ, ◌+◌, ◌<◌, ◌≤◌, Bool, true, false, cond, ltb, List, [], ◌∷◌, get_or, set, arith}
+use Rattle.std.proofs.lemmas.Bool.{cases_eq}
 use Rattle.std.proofs.lemmas.List.{set-get_or}
 use mathlib.Core.Option.{some}
 use lib.ListN.{get_elem?}
 use Rattle.atomic_table.specs.Table.{State as TableState, Me, keeps, Allows}
-use Rattle.atomic_table.proofs.Lists.{set_again}
 use Rattle.hc_base.specs.Lookup.{Among, but}
 use Rattle.hc_base.specs.declared.numbers.Cid.{Cid}
-use Rattle.hc_base.specs.declared.seat_word.SeatWord.{SeatWord}
 use Rattle.hc_base.specs.declared.seat_word.SeatWord.TheVariants as seat
-use Rattle.hc_base.specs.declared.tid_word.TidWord.{TidWord}
 use Rattle.hc_base.proofs.Lookups.{but-same, but-other}
 use Rattle.hc_base.specs.Words.{IsSeatWord, seat_word}
 use Rattle.hc_core.specs.Account.{Txn, txns, IsOf, after_entry, IsIdle, WhenOpen, begun_at}
@@ -18,7 +15,6 @@ use Rattle.hc_core.specs.Diary.{entry_of}
 use Rattle.hc_core.specs.declared.account.Entry.{Entry}
 use Rattle.hc_core.specs.declared.event.Event.TheVariants.{Begin, Propose}
 use Rattle.hc_core.specs.declared.outcome.Outcome.TheVariants.{Began, Proposed}
-use Rattle.hc_core.proofs.Kept.Begin.{kept_begin}
 use Rattle.hc_core.proofs.Kept.Propose.{kept_propose}
 use Rattle.hc_rows.specs.declared.layout.Layout.{Layout}
 use Rattle.hc_rows.specs.Places.{HasPlace, log_at}
@@ -27,8 +23,6 @@ use Rattle.hc_rows.proofs.Steps.{words_are}
 use Rattle.hc_rule.specs.declared.view.View.{View}
 use Rattle.hc_rule.specs.declared.view.Role.{Role}
 use Rattle.hc_rule.specs.declared.view.Role.TheVariants.{Connection}
-use Rattle.hc_rule.specs.declared.view.SeenWord.{SeenWord}
-use Rattle.hc_rule.specs.declared.view.SeenPlace.{SeenPlace}
 use Rattle.hc_rule.specs.Views.{Knowledge, knowledge_of, known, bare}
 use Rattle.hc_rule.specs.Seats.{IsDealt}
 use Rattle.hc_rule.specs.Stages.{IsStage}
@@ -36,12 +30,13 @@ use Rattle.hc_rule.specs.CommitLog.{IsLogged}
 use Rattle.hc_rule.specs.TidWords.{AreWorded, open_id, IsOpenId}
 use Rattle.hc_rule.specs.Seen.{IsSeenPlace}
 use Rattle.hc_rule.specs.Recorded.{IsRecorded, txns_of}
-use Rattle.hc_rule.specs.Rule.{Holds, Recorded}
-use Rattle.hc_rule.specs.Kinds.LoadLog.{own_txns, with_entry, later, with_place, Looking, Looks, Begins, Proposes, Asks, at_end, LogLoad, LoadsLog}
+use Rattle.hc_rule.specs.Rule.{Holds}
+use Rattle.hc_rule.specs.Kinds.LoadPage.{with_found}
+use Rattle.hc_rule.specs.Kinds.LoadLog.{own_txns, with_entry, with_place, Looking, Looks, Begins, Proposes, Asks, at_end, LogLoad, LoadsLog}
 use Rattle.hc_rule.proofs.Along.{holds_with, held_along, recorded_along}
 use Rattle.hc_rule.proofs.Entering.{AllGo, seen_on, staged_changed, own_changed, recorded_entered}
-use Rattle.hc_rule.proofs.LogSteps.{stage_changed, newest_of, idle_id, running_id, logged_begun, worded_begun, all_begun, logged_changed, worded_changed, all_changed}
-use Rattle.hc_rule.proofs.OwnSeat.{field_is, account_is, seen_within, not_past, at_size, id_within, place_within, before_end, words_old, places_old, stage_is}
+use Rattle.hc_rule.proofs.LogSteps.{stage_changed, newest_of, idle_id, logged_begun, worded_begun, all_begun, logged_changed, worded_changed, all_changed}
+use Rattle.hc_rule.proofs.OwnSeat.{field_is, account_is, seen_within, not_past, at_size, id_within, place_within, before_end, words_old, places_old}
 use Rattle.hc_rule.proofs.Recording.{recorded_learned}
 use Rattle.hc_rule.proofs.Views.{known_is, known_kept, known_set}
 
@@ -139,13 +134,19 @@ knowledge_kept y words views id v w at h leaves recorded =
     (held_along views (set views id w) (known_kept (λ x. x.stage) views id v w at leaves.4) (known_kept (λ x. x.pages) views id v w at leaves.1) h.held)
     (recorded_along y.transactions _ _ _ _ _ _ _ _ _ _ refl refl refl roles (known_set knowledge_of views id v w at) recorded)
 
-leaves_rest : (kind : Looking) (conn : ℕ) (v : View) → LeavesRest v (at_end kind conn v)
-leaves_rest Looks conn v = (refl, refl, refl, refl, refl)
-leaves_rest Begins conn v = (refl, refl, refl, refl, refl)
-leaves_rest Proposes conn v = (refl, refl, refl, refl, refl)
+leaves_rest : (kind : Looking) (conn place : ℕ) (v : View) → LeavesRest v (at_end kind conn (with_found place 0 v))
+leaves_rest Looks conn place v = (refl, refl, refl, refl, refl)
+leaves_rest Begins conn place v = (refl, refl, refl, refl, refl)
+leaves_rest Proposes conn place v = (refl, refl, refl, refl, refl)
+
+-- what was found changes nothing that is asked
+asks_found : (kind : Looking) (c place : ℕ) (v : View) → Asks kind c v → Asks kind c (with_found place 0 v)
+asks_found Looks c place v asked = asked
+asks_found Begins c place v asked = asked
+asks_found Proposes c place v asked = asked
 
 pub load_log_allows : (y : Layout) (slots id : ℕ) (l : LogLoad) (v : View) → HasPlace y l.c → v.role ≡ Connection l.conn → l.last ≡ y.transactions → Asks l.kind l.c v
-    → Allows (λ (s : TableState Unit View). Holds y s.words s.views) slots id (bare v) (log_at y l.c) (λ n. n) (λ n after. LoadsLog l v n after)
+    → Allows (λ (s : TableState Unit View). Holds y s.words s.views) slots id (bare v) (log_at y l.c) (λ n. n) (λ n after. LoadsLog (log_at y l.c) l v n after)
 load_log_allows y slots id l v there mine last asked s h len at below =
     let here : log_words y s.words l.c ≡ get_or s.words (log_at y l.c) 0 = words_are (log_at y) 1 (y.transactions + 2) s.words l.c there.0 (omega (arith, there)) in
     let role = known (λ x. x.role) s.views in
@@ -154,12 +155,12 @@ load_log_allows y slots id l v there mine last asked s h len at below =
     let is = known_is knowledge_of s.views id v at in
     ⊎_elim
     (λ (none : get_or s.words (log_at y l.c) 0 ≡ 0). (
-      at_end l.kind l.conn v,
+      at_end l.kind l.conn (with_found (log_at y l.c) 0 v),
       keeps,
       tt,
-      subst (λ ws. Holds y ws (set s.views id (at_end l.kind l.conn v))) (sym (set-get_or s.words (log_at y l.c) 0))
-          (knowledge_kept y s.words s.views id v (at_end l.kind l.conn v) at h (leaves_rest l.kind l.conn v)
-          (recorded_at_end y.transactions y.seats (seat_words y s.words) (tid_words y s.words) (log_words y s.words) role know h.recorded h.dealt id l.conn mine_is v is l.kind l.c (here ∙ none) asked)),
+      subst (λ ws. Holds y ws (set s.views id (at_end l.kind l.conn (with_found (log_at y l.c) 0 v)))) (sym (set-get_or s.words (log_at y l.c) 0))
+          (knowledge_kept y s.words s.views id v (at_end l.kind l.conn (with_found (log_at y l.c) 0 v)) at h (leaves_rest l.kind l.conn (log_at y l.c) v)
+          (recorded_at_end y.transactions y.seats (seat_words y s.words) (tid_words y s.words) (log_words y s.words) role know h.recorded h.dealt id l.conn mine_is (with_found (log_at y l.c) 0 v) is l.kind l.c (here ∙ none) (asks_found l.kind l.c (log_at y l.c) v asked))),
       inl (none, before_end y.transactions y.seats (seat_words y s.words) (tid_words y s.words) (log_words y s.words) role know h.recorded h.dealt id l.conn mine_is v is l.c there.0 (here ∙ none), refl),
     ))
     (λ (taken : get_or s.words (log_at y l.c) 0 ≢ 0).
@@ -176,8 +177,8 @@ load_log_allows y slots id l v there mine last asked s h len at below =
     (cases_eq (get_or s.words (log_at y l.c) 0) 0)
 
 -- what is told, by the word
-pub found_empty : (l : LogLoad) (v : View) (n : ℕ) (after : Me Unit View) → n ≡ 0 → LoadsLog l v n after → (v.seen.0 < l.c) × (after ≡ bare (at_end l.kind l.conn v))
-found_empty l v n after none told = ⊎_elim (λ (end : (n ≡ 0) × (v.seen.0 < l.c) × (after ≡ bare (at_end l.kind l.conn v))). (end.1, end.2)) (λ taken. absurd (taken.0 none)) told
+pub found_empty : (place : ℕ) (l : LogLoad) (v : View) (n : ℕ) (after : Me Unit View) → n ≡ 0 → LoadsLog place l v n after → (v.seen.0 < l.c) × (after ≡ bare (at_end l.kind l.conn (with_found place 0 v)))
+found_empty place l v n after none told = ⊎_elim (λ (end : (n ≡ 0) × (v.seen.0 < l.c) × (after ≡ bare (at_end l.kind l.conn (with_found place 0 v)))). (end.1, end.2)) (λ taken. absurd (taken.0 none)) told
 
-pub found_taken : (l : LogLoad) (v : View) (n : ℕ) (after : Me Unit View) → n ≢ 0 → LoadsLog l v n after → (n ≤ l.last) × (l.c ≤ l.last) × (after ≡ bare (with_place l.c n v))
-found_taken l v n after taken told = ⊎_elim (λ end. absurd (taken end.0)) (λ (at : (n ≢ 0) × (n ≤ l.last) × (l.c ≤ l.last) × (after ≡ bare (with_place l.c n v))). (at.1, at.2, at.3)) told
+pub found_taken : (place : ℕ) (l : LogLoad) (v : View) (n : ℕ) (after : Me Unit View) → n ≢ 0 → LoadsLog place l v n after → (n ≤ l.last) × (l.c ≤ l.last) × (after ≡ bare (with_place l.c n v))
+found_taken place l v n after taken told = ⊎_elim (λ end. absurd (taken end.0)) (λ (at : (n ≢ 0) × (n ≤ l.last) × (l.c ≤ l.last) × (after ≡ bare (with_place l.c n v))). (at.1, at.2, at.3)) told

@@ -17,10 +17,10 @@ use Rattle.hc_rule.specs.declared.view.Role.TheVariants.{Dealer, Connection, Nob
 use Rattle.hc_rule.specs.Views.{Knowledge, knowledge_of, known, nobody}
 use Rattle.hc_rule.specs.Accounts.{AreAccounts, HasBegun}
 use Rattle.hc_rule.specs.Recorded.{IsRecorded}
-use Rattle.hc_rule.specs.Rule.{Holds, Recorded}
+use Rattle.hc_rule.specs.Rule.{Holds}
 use Rattle.hc_rule.specs.Kinds.Note.{told_by, note_of, informed}
 use Rattle.hc_rule.proofs.Along.{holds_with, held_along, recorded_along}
-use Rattle.hc_rule.proofs.Recording.{IsSameOwn, IsTrue, recorded_learned}
+use Rattle.hc_rule.proofs.Recording.{recorded_learned}
 use Rattle.hc_rule.proofs.Roles.{not_nobody}
 use Rattle.hc_rule.proofs.Views.{known_is, known_kept, known_set, known_new, known_more, nobody_past}
 

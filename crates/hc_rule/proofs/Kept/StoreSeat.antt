@@ -1,8 +1,8 @@
 -- A store of the word of the seat's own connection keeps the rule.
-use Rattle.std.proofs.Common.{◌≡◌, ◌≢◌, ◌∙◌, refl, sym, ap, subst, ⊎_elim, inl, inr, ◌⊎◌, ℕ, ◌+◌, ◌<◌, ◌≤◌, ◌^◌, true, List, [], ◌∷◌, set, length-set, arith}
+use Rattle.std.proofs.Common.{◌≡◌, ◌≢◌, ◌∙◌, refl, sym, ap, subst, inl, ◌⊎◌, ℕ, ◌≤◌, true, List, [], ◌∷◌, set, length-set, arith}
 use mathlib.Core.Option.{some}
 use lib.ListN.{get_elem?}
-use Rattle.atomic_table.specs.Table.{State as TableState, Me, keeps, Allows}
+use Rattle.atomic_table.specs.Table.{State as TableState, keeps, Allows}
 use Rattle.hc_base.specs.Lookup.{Among, but}
 use Rattle.hc_base.specs.Words.{IsSeatWord, seat_word}
 use Rattle.hc_base.specs.declared.seat_word.SeatWord.{SeatWord}
@@ -35,7 +35,7 @@ use Rattle.hc_rule.proofs.Along.{holds_with, recorded_along}
 use Rattle.hc_rule.proofs.Holding.{holders_along, holders_stage, idle_none}
 use Rattle.hc_rule.proofs.Entering.{seen_on, staged_changed, own_changed, recorded_entered}
 use Rattle.hc_rule.proofs.LogSteps.{newest_of, logged_changed, worded_changed, all_changed}
-use Rattle.hc_rule.proofs.OwnSeat.{field_is, account_is, seen_within, words_old, places_old, stage_is}
+use Rattle.hc_rule.proofs.OwnSeat.{account_is, stage_is}
 use Rattle.hc_rule.proofs.Recording.{accounts_learned, own_learned, seen_learned}
 use Rattle.hc_rule.proofs.Views.{known_is, known_kept, known_set}
 

@@ -40,10 +40,10 @@ module _ (y : Layout) (words : List ℕ) (views : List View) (id p conn next : �
   small : conn < 2 ^ 8
   small = omega (arith, h.dealt.there id conn role_is, h.layout.seats)
 
-  claimed : known (λ x. x.claimed) (set views id (with_page p next (rows y words p) v)) ≡ but (known (λ x. x.claimed) views) id (claim_of p ∷ known (λ x. x.claimed) views id)
+  claimed : known (λ x. x.claimed) (set views id (with_page p next (rows y words p) v)) ≡ but (known (λ x. x.claimed) views) id (claim_of v.own p ∷ known (λ x. x.claimed) views id)
   claimed =
       known_set (λ x. x.claimed) views id v (with_page p next (rows y words p) v) at
-      ∙ ap (λ xs. but (known (λ x. x.claimed) views) id (claim_of p ∷ xs)) (sym (known_is (λ x. x.claimed) views id v at))
+      ∙ ap (λ xs. but (known (λ x. x.claimed) views) id (claim_of v.own p ∷ xs)) (sym (known_is (λ x. x.claimed) views id v at))
 
   pub take_kept : Holds y (set words (page_at y p) (page_word (word.Owned conn next))) (set views id (with_page p next (rows y words p) v))
   take_kept =
@@ -53,8 +53,8 @@ module _ (y : Layout) (words : List ℕ) (views : List View) (id p conn next : �
       let claims = known (λ x. x.claimed) views in
       holds_after y words _ views id v (with_page p next (rows y words p) v) h at (length-set words (page_at y p) (page_word (word.Owned conn next))) refl refl (record { seat = step.seat; tid = step.tid; log = step.log }) registered refl
       (but h.state p (Owned conn next)) _ _ _ step.page step.map step.row (row_of p next (rows y words p) ∷ known (λ x. x.pages) views id) _ (λ is. ap (λ xs. row_of p next (rows y words p) ∷ xs) (sym is)) claimed
-      (stated_take h.state (page_words y words) (map_words y words) role hand claims h.stated id p conn next (rows y words p) free role_is small short)
-      (reached_take h.state (page_words y words) (map_words y words) role hand claims h.stated id p conn next (rows y words p) free role_is small short (rows y words) (known (λ x. x.loaded) views) h.reached refl)
+      (stated_take h.state (page_words y words) (map_words y words) role hand claims h.stated id p conn next v.own (rows y words p) free role_is small short)
+      (reached_take h.state (page_words y words) (map_words y words) role hand claims h.stated id p conn next v.own (rows y words p) free role_is small short (rows y words) (known (λ x. x.loaded) views) h.reached refl)
 
   -- and it was not in the seat's hand
   pub was_elsewhere : IsElsewhere p v

@@ -1,21 +1,18 @@
 -- A load of the word of an id, the exchange that draws one, and a store of the own id's word keep the rule.
-use Rattle.std.proofs.Common.{◌≡◌, ◌≢◌, ◌∙◌, refl, sym, ap, subst, ⊎_elim, inl, inr, ◌⊎◌, ℕ, zero, suc, ◌+◌, ◌<◌, ◌≤◌, ◌^◌, eqb, eq-eqb, ne_eqb, true, false, Option, Some, List, [], ◌∷◌, get_or, set, length-set, arith}
+use Rattle.std.proofs.Common.{◌≡◌, ◌≢◌, ◌∙◌, refl, sym, ap, subst, ⊎_elim, inl, inr, ◌⊎◌, ℕ, ◌+◌, ◌<◌, ◌≤◌, ◌^◌, eqb, eq-eqb, ne_eqb, Some, List, [], ◌∷◌, get_or, set, length-set, arith}
 use Rattle.std.proofs.lemmas.Bool.{cases_eq, cases_lt, cases_Bool}
 use Rattle.std.proofs.lemmas.List.{set-get_or}
-use mathlib.Core.Option.{some, some-injective}
+use mathlib.Core.Option.{some}
 use lib.ListN.{get_elem?}
 use prog.Atomic.{either}
 use Rattle.atomic_table.specs.Table.{State as TableState, Me, keeps, Allows}
-use Rattle.atomic_table.proofs.Lists.{set_again}
 use Rattle.hc_base.specs.Lookup.{Among, but}
 use Rattle.hc_base.specs.Words.{IsTidWord, tid_word, IsSeatWord, seat_word}
-use Rattle.hc_base.specs.declared.numbers.Tid.{Tid}
-use Rattle.hc_base.specs.declared.seat_word.SeatWord.TheVariants as seat
 use Rattle.hc_base.specs.declared.tid_word.TidWord.{TidWord}
 use Rattle.hc_base.specs.declared.tid_word.TidWord.TheVariants as tid
-use Rattle.hc_base.proofs.Lookups.{but-is, but-same, but-other, each_but, each_old, each_either, each_new, new_here, rest_here, others_here, old_there, rest_there}
+use Rattle.hc_base.proofs.Lookups.{but-same, but-other, each_but, each_old, each_either, new_here, rest_here, others_here, old_there}
 use Rattle.hc_base.proofs.OneWord.{tid_one}
-use Rattle.hc_core.specs.Account.{Txn, txns, IsIdle, WhenOpen, after_entry}
+use Rattle.hc_core.specs.Account.{Txn, txns, WhenOpen, after_entry}
 use Rattle.hc_core.specs.Diary.{entry_of}
 use Rattle.hc_core.specs.declared.account.Entry.{Entry}
 use Rattle.hc_core.specs.declared.event.Event.TheVariants.{Draw}
@@ -29,21 +26,19 @@ use Rattle.hc_rows.proofs.Steps.{words_are, at_tid}
 use Rattle.hc_rule.specs.declared.view.View.{View}
 use Rattle.hc_rule.specs.declared.view.Role.{Role}
 use Rattle.hc_rule.specs.declared.view.Role.TheVariants.{Connection}
-use Rattle.hc_rule.specs.declared.view.SeenWord.{SeenWord}
 use Rattle.hc_rule.specs.Views.{Knowledge, knowledge_of, known, bare}
 use Rattle.hc_rule.specs.Seats.{IsDealt}
-use Rattle.hc_rule.specs.CommitLog.{IsLogged}
 use Rattle.hc_rule.specs.Stages.{IsStage}
-use Rattle.hc_rule.specs.TidWords.{Shows, AreWorded, open_id, IsOpenId}
+use Rattle.hc_rule.specs.TidWords.{Shows, open_id, IsOpenId}
 use Rattle.hc_rule.specs.Seen.{IsAbove, IsTxn, Stays, IsSeenWord}
 use Rattle.hc_rule.specs.Recorded.{IsRecorded, txns_of}
 use Rattle.hc_rule.specs.Rule.{Holds}
 use Rattle.hc_rule.specs.Kinds.LoadLog.{own_txns}
 use Rattle.hc_rule.specs.Kinds.TidWord.{with_seen, saw, LoadsTid, FollowsSeen, Drawing, MayDraw, drew, DrawsTid, DrewTid, IsRolledBack, MaySay, TidStore, MayStoreTid, said, StoresTid}
 use Rattle.hc_rule.proofs.Along.{holds_with, held_along, recorded_along}
-use Rattle.hc_rule.proofs.Entering.{Goes, AllGo, seen_on, staged_changed, own_changed, recorded_entered}
+use Rattle.hc_rule.proofs.Entering.{Goes, seen_on, staged_changed, own_changed, recorded_entered}
 use Rattle.hc_rule.proofs.LogSteps.{newest_of, running_id}
-use Rattle.hc_rule.proofs.OwnSeat.{field_is, account_is, seen_within, words_old, places_old, own_same, stage_is}
+use Rattle.hc_rule.proofs.OwnSeat.{account_is, seen_within, words_old, places_old, own_same, stage_is}
 use Rattle.hc_rule.proofs.Recording.{accounts_learned, staged_learned, recorded_learned}
 use Rattle.hc_rule.proofs.Kept.LoadLog.{LeavesRest, knowledge_kept}
 use Rattle.hc_rule.proofs.Views.{known_is, known_kept, known_set}
@@ -130,12 +125,12 @@ module _ (last seats : ℕ) (seat_at tid_at log : ℕ → ℕ) (role : ℕ → R
       })
 
   -- the seat notes the word that it found
-  pub recorded_saw : (id : ℕ) (f : TidWord) → f ≡ h.form id → IsRecorded last seat_at tid_at log role (but know i (knowledge_of (saw id f v)))
-  recorded_saw id tid.Empty is_form = same_view
-  recorded_saw id (tid.Live c o) is_form = noted id (tid.Live c o) is_form (λ none. subst IsFilled none tt)
-  recorded_saw id (tid.Validating c o n) is_form = noted id (tid.Validating c o n) is_form (λ none. subst IsFilled none tt)
-  recorded_saw id (tid.Committed c o n) is_form = noted id (tid.Committed c o n) is_form (λ none. subst IsFilled none tt)
-  recorded_saw id (tid.RolledBack c o) is_form = noted id (tid.RolledBack c o) is_form (λ none. subst IsFilled none tt)
+  pub recorded_saw : (place id : ℕ) (f : TidWord) → f ≡ h.form id → IsRecorded last seat_at tid_at log role (but know i (knowledge_of (saw place id f v)))
+  recorded_saw place id tid.Empty is_form = same_view
+  recorded_saw place id (tid.Live c o) is_form = noted id (tid.Live c o) is_form (λ none. subst IsFilled none tt)
+  recorded_saw place id (tid.Validating c o n) is_form = noted id (tid.Validating c o n) is_form (λ none. subst IsFilled none tt)
+  recorded_saw place id (tid.Committed c o n) is_form = noted id (tid.Committed c o n) is_form (λ none. subst IsFilled none tt)
+  recorded_saw place id (tid.RolledBack c o) is_form = noted id (tid.RolledBack c o) is_form (λ none. subst IsFilled none tt)
 
 -- what a transaction may say shows it
 may_show : (conn : ℕ) (t : Txn) (w : TidWord) → MaySay conn w t → Shows conn t w
@@ -325,26 +320,26 @@ module _ (last seats : ℕ) (seat_at tid_at log : ℕ → ℕ) (role : ℕ → R
 load_is : (y : Layout) (words : List ℕ) (views : List View) (h : Holds y words views) (t : ℕ) → HasTid y t → tid_word (h.recorded.form t) ≡ get_or words (tid_at y t) 0
 load_is y words views h t there = sym (h.recorded.worded.word t) ∙ words_are (tid_at y) 1 (y.transactions + 1) words t there.0 (omega (arith, there))
 
-leaves_rest : (id : ℕ) (f : TidWord) (v : View) → LeavesRest v (saw id f v)
-leaves_rest id tid.Empty v = (refl, refl, refl, refl, refl)
-leaves_rest id (tid.Live c o) v = (refl, refl, refl, refl, refl)
-leaves_rest id (tid.Validating c o n) v = (refl, refl, refl, refl, refl)
-leaves_rest id (tid.Committed c o n) v = (refl, refl, refl, refl, refl)
-leaves_rest id (tid.RolledBack c o) v = (refl, refl, refl, refl, refl)
+leaves_rest : (place id : ℕ) (f : TidWord) (v : View) → LeavesRest v (saw place id f v)
+leaves_rest place id tid.Empty v = (refl, refl, refl, refl, refl)
+leaves_rest place id (tid.Live c o) v = (refl, refl, refl, refl, refl)
+leaves_rest place id (tid.Validating c o n) v = (refl, refl, refl, refl, refl)
+leaves_rest place id (tid.Committed c o n) v = (refl, refl, refl, refl, refl)
+leaves_rest place id (tid.RolledBack c o) v = (refl, refl, refl, refl, refl)
 
 -- the rule where the seat notes what it found
-saw_kept : (y : Layout) (words : List ℕ) (views : List View) (h : Holds y words views) (id t conn : ℕ) (v : View) → get_elem? views id ≡ some v → v.role ≡ Connection conn → Holds y words (set views id (saw t (h.recorded.form t) v))
-saw_kept y words views h id t conn v at mine =
-    knowledge_kept y words views id v (saw t (h.recorded.form t) v) at h (leaves_rest t (h.recorded.form t) v)
+saw_kept : (y : Layout) (words : List ℕ) (views : List View) (h : Holds y words views) (id place t conn : ℕ) (v : View) → get_elem? views id ≡ some v → v.role ≡ Connection conn → Holds y words (set views id (saw place t (h.recorded.form t) v))
+saw_kept y words views h id place t conn v at mine =
+    knowledge_kept y words views id v (saw place t (h.recorded.form t) v) at h (leaves_rest place t (h.recorded.form t) v)
     (recorded_saw y.transactions y.seats (seat_words y words) (tid_words y words) (log_words y words) (known (λ x. x.role) views) (known knowledge_of views) h.recorded h.dealt id conn
-    (known_is (λ x. x.role) views id v at ∙ mine) v (known_is knowledge_of views id v at) t (h.recorded.form t) refl)
+    (known_is (λ x. x.role) views id v at ∙ mine) v (known_is knowledge_of views id v at) place t (h.recorded.form t) refl)
 
 -- a load of the word of an id
 pub load_tid_allows : (y : Layout) (slots id t conn : ℕ) (v : View) → HasTid y t → v.role ≡ Connection conn
-    → Allows (λ (s : TableState Unit View). Holds y s.words s.views) slots id (bare v) (tid_at y t) (λ n. n) (λ n after. LoadsTid t v n after)
+    → Allows (λ (s : TableState Unit View). Holds y s.words s.views) slots id (bare v) (tid_at y t) (λ n. n) (λ n after. LoadsTid (tid_at y t) t v n after)
 load_tid_allows y slots id t conn v there mine s h len at below =
     let is = load_is y s.words s.views h t there in
-    (saw t (h.recorded.form t) v, keeps, tt, subst (λ ws. Holds y ws (set s.views id (saw t (h.recorded.form t) v))) (sym (set-get_or s.words (tid_at y t) 0)) (saw_kept y s.words s.views h id t conn v at mine), (h.recorded.form t, h.recorded.worded.fits t, is, refl))
+    (saw (tid_at y t) t (h.recorded.form t) v, keeps, tt, subst (λ ws. Holds y ws (set s.views id (saw (tid_at y t) t (h.recorded.form t) v))) (sym (set-get_or s.words (tid_at y t) 0)) (saw_kept y s.words s.views h id (tid_at y t) t conn v at mine), (h.recorded.form t, h.recorded.worded.fits t, is, refl))
 
 -- the rule where the word of an id is another one, and of the views what one seat knows of transactions
 word_kept : (y : Layout) (words : List ℕ) (views : List View) (id t n : ℕ) (v w : View) → Holds y words views → get_elem? views id ≡ some v → HasTid y t → LeavesRest v w
@@ -360,7 +355,7 @@ word_kept y words views id t n v w h at there leaves recorded =
 
 -- the exchange that draws an id
 pub draw_allows : (y : Layout) (slots id : ℕ) (d : Drawing) (v : View) → HasTid y d.id → v.role ≡ Connection d.conn → MayDraw d v
-    → Allows (λ (s : TableState Unit View). Holds y s.words s.views) slots id (bare v) (tid_at y d.id) (λ n. either (eqb n 0) (tid_word (tid.Live d.conn d.ord)) n) (λ n after. DrawsTid d v n after)
+    → Allows (λ (s : TableState Unit View). Holds y s.words s.views) slots id (bare v) (tid_at y d.id) (λ n. either (eqb n 0) (tid_word (tid.Live d.conn d.ord)) n) (λ n after. DrawsTid (tid_at y d.id) d v n after)
 draw_allows y slots id d v there mine may s h len at below =
     let place = tid_at y d.id in
     let n = get_or s.words (tid_at y d.id) 0 in
@@ -378,11 +373,11 @@ draw_allows y slots id d v there mine may s h len at below =
       inl (hit, refl),
     ))
     (λ (miss : get_or s.words (tid_at y d.id) 0 ≢ 0). (
-      saw d.id (h.recorded.form d.id) v,
+      saw (tid_at y d.id) d.id (h.recorded.form d.id) v,
       keeps,
       tt,
-      subst (λ b. Holds y (set s.words (tid_at y d.id) (either b (tid_word (tid.Live d.conn d.ord)) (get_or s.words (tid_at y d.id) 0))) (set s.views id (saw d.id (h.recorded.form d.id) v))) (sym (ne_eqb (get_or s.words (tid_at y d.id) 0) 0 miss))
-          (subst (λ ws. Holds y ws (set s.views id (saw d.id (h.recorded.form d.id) v))) (sym (set-get_or s.words (tid_at y d.id) 0)) (saw_kept y s.words s.views h id d.id d.conn v at mine)),
+      subst (λ b. Holds y (set s.words (tid_at y d.id) (either b (tid_word (tid.Live d.conn d.ord)) (get_or s.words (tid_at y d.id) 0))) (set s.views id (saw (tid_at y d.id) d.id (h.recorded.form d.id) v))) (sym (ne_eqb (get_or s.words (tid_at y d.id) 0) 0 miss))
+          (subst (λ ws. Holds y ws (set s.views id (saw (tid_at y d.id) d.id (h.recorded.form d.id) v))) (sym (set-get_or s.words (tid_at y d.id) 0)) (saw_kept y s.words s.views h id (tid_at y d.id) d.id d.conn v at mine)),
       inr (miss, (h.recorded.form d.id, h.recorded.worded.fits d.id, is, refl)),
     ))
     (cases_eq (get_or s.words (tid_at y d.id) 0) 0)
@@ -401,14 +396,23 @@ store_tid_allows y slots id t v there mine may s h len at below = (
 )
 
 -- the form of the word that was found
-pub found_form : (id : ℕ) (v : View) (n : ℕ) (after : Me Unit View) (f : TidWord) → IsTidWord f → tid_word f ≡ n → LoadsTid id v n after → after ≡ bare (saw id f v)
-found_form id v n after f fits is told = told.3 ∙ ap (λ g. bare (saw id g v)) (tid_one told.0 f told.1 fits (told.2 ∙ sym is))
+pub found_form : (place id : ℕ) (v : View) (n : ℕ) (after : Me Unit View) (f : TidWord) → IsTidWord f → tid_word f ≡ n → LoadsTid place id v n after → after ≡ bare (saw place id f v)
+found_form place id v n after f fits is told = told.3 ∙ ap (λ g. bare (saw place id g v)) (tid_one told.0 f told.1 fits (told.2 ∙ sym is))
+
+-- a word that is not empty is noted
+pub saw_filled : (place id : ℕ) (form : TidWord) (v : View) → (form ≡ tid.Empty → ⊥) → saw place id form v ≡ with_seen id form v
+saw_filled place id tid.Empty v filled = absurd (filled refl)
+saw_filled place id (tid.Live c o) v filled = refl
+saw_filled place id (tid.Validating c o n) v filled = refl
+saw_filled place id (tid.Committed c o n) v filled = refl
+saw_filled place id (tid.RolledBack c o) v filled = refl
 
 -- what is told, by the answer
-pub drew_tid : (d : Drawing) (v : View) (n : ℕ) (after : Me Unit View) → DrawsTid d v n after → DrewTid d v (eqb n 0) after
-drew_tid d v n after told =
+pub drew_tid : (place : ℕ) (d : Drawing) (v : View) (n : ℕ) (after : Me Unit View) → DrawsTid place d v n after → DrewTid d v (eqb n 0) after
+drew_tid place d v n after told =
     ⊎_elim
     (λ (hit : (n ≡ 0) × (after ≡ bare (drew d v))). subst (λ b. DrewTid d v b after) (sym (eq-eqb n 0 hit.0)) hit.1)
-    (λ (miss : (n ≢ 0) × LoadsTid d.id v n after).
-    subst (λ b. DrewTid d v b after) (sym (ne_eqb n 0 miss.0)) (miss.1.0, miss.1.1, (λ none. miss.0 (sym miss.1.2 ∙ ap tid_word none)), miss.1.3))
+    (λ (miss : (n ≢ 0) × LoadsTid place d.id v n after).
+    let filled : miss.1.0 ≡ tid.Empty → ⊥ = (λ none. miss.0 (sym miss.1.2 ∙ ap tid_word none)) in
+    subst (λ b. DrewTid d v b after) (sym (ne_eqb n 0 miss.0)) (miss.1.0, miss.1.1, filled, miss.1.3 ∙ ap bare (saw_filled place d.id miss.1.0 v filled)))
     told

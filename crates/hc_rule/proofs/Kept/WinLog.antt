@@ -1,19 +1,17 @@
 -- The exchange that wins a place of the log keeps the rule.
-use Rattle.std.proofs.Common.{◌≡◌, ◌≢◌, ◌∙◌, refl, sym, ap, subst, ⊎_elim, inl, inr, ◌⊎◌, ℕ, ◌+◌, ◌-◌, ◌<◌, ◌≤◌, eqb, eq-eqb, ne_eqb, ltb, Some, List, [], ◌∷◌, get_or, set, length-set, arith}
+use Rattle.std.proofs.Common.{◌≡◌, ◌≢◌, ◌∙◌, refl, sym, ap, subst, ⊎_elim, inl, inr, ℕ, ◌+◌, ◌<◌, ◌≤◌, eqb, eq-eqb, ne_eqb, ltb, Some, List, [], ◌∷◌, get_or, set, length-set, arith}
 use Rattle.std.proofs.lemmas.Bool.{cases_eq, cases_lt, lt-ltb, le-ltb}
 use mathlib.Core.Option.{some}
 use lib.ListN.{get_elem?}
 use prog.Atomic.{either}
 use Rattle.atomic_table.specs.Table.{State as TableState, Me, keeps, Allows}
 use Rattle.std.proofs.lemmas.List.{set-get_or}
-use Rattle.hc_range.specs.Ranges.{Includes}
 use Rattle.hc_base.specs.Lookup.{Among, but}
 use Rattle.hc_base.specs.declared.numbers.Cid.{Cid}
 use Rattle.hc_base.specs.Words.{IsSeatWord, seat_word}
-use Rattle.hc_base.specs.declared.tid_word.TidWord.{TidWord}
 use Rattle.hc_base.specs.declared.tid_word.TidWord.TheVariants as tid
-use Rattle.hc_base.proofs.Lookups.{but-is, but-same, but-other, each_but, each_old, each_either, new_here, rest_here, others_here, old_there}
-use Rattle.hc_core.specs.Account.{Txn, PartRead, txns, WhenOpen, after_entry}
+use Rattle.hc_base.proofs.Lookups.{but-is, but-same, but-other, each_old, each_either, new_here, rest_here, others_here, old_there}
+use Rattle.hc_core.specs.Account.{Txn, txns, WhenOpen, after_entry}
 use Rattle.hc_core.specs.Sound.{AreSound}
 use Rattle.hc_core.specs.declared.account.Entry.{Entry}
 use Rattle.hc_core.specs.declared.event.Event.TheVariants.{Decide}
@@ -29,7 +27,6 @@ use Rattle.hc_rows.proofs.Steps.{words_are, at_log}
 use Rattle.hc_rule.specs.declared.view.View.{View}
 use Rattle.hc_rule.specs.declared.view.Role.{Role}
 use Rattle.hc_rule.specs.declared.view.Role.TheVariants.{Connection}
-use Rattle.hc_rule.specs.declared.view.SeenPlace.{SeenPlace}
 use Rattle.hc_rule.specs.Views.{Knowledge, knowledge_of, known, bare}
 use Rattle.hc_rule.specs.Seats.{IsDealt}
 use Rattle.hc_rule.specs.Stages.{IsStage}
@@ -39,9 +36,9 @@ use Rattle.hc_rule.specs.Recorded.{IsRecorded, txns_of}
 use Rattle.hc_rule.specs.Rule.{Holds}
 use Rattle.hc_rule.specs.Kinds.LoadLog.{own_txns, with_entry, later, with_place}
 use Rattle.hc_rule.specs.Kinds.TidWord.{IsRolledBack}
-use Rattle.hc_rule.specs.Kinds.WinLog.{Winning, IsReady, MayWin, decided, lost, won_by, lost_to, WinsLog}
+use Rattle.hc_rule.specs.Kinds.WinLog.{Winning, IsReady, MayWin, decided, won_by, lost_to, WinsLog}
 use Rattle.hc_rule.proofs.Along.{holds_with, held_along, recorded_along}
-use Rattle.hc_rule.proofs.Entering.{Goes, AllGo, seen_on, staged_changed, own_changed, recorded_entered}
+use Rattle.hc_rule.proofs.Entering.{Goes, seen_on, staged_changed, own_changed, recorded_entered}
 use Rattle.hc_rule.proofs.Laying.{but_again}
 use Rattle.hc_rule.proofs.LogSteps.{newest_of, running_id, size_within, stage_changed, logged_changed, worded_changed, all_changed}
 use Rattle.hc_rule.proofs.OwnSeat.{account_is, seen_within, taken_within, id_within, place_within, words_old, places_old, stage_is}

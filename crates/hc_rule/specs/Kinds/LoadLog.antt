@@ -1,5 +1,5 @@
--- A load of the word of a commit number. Where it is taken the seat notes the id. Where it is empty, and the one before is
--- seen taken, all that are committed are seen: a transaction may begin there, or propose the number.
+-- A load of the word of a commit number. The seat notes the id where it is taken, and the place where it is empty. Where it is
+-- empty, and the one before is seen taken, all that are committed are seen: a transaction may begin there, or propose the number.
 use Rattle.std.specs.Prelude.{◌≡◌, ◌≢◌, ◌⊎◌, ⊤, ℕ, ◌+◌, ◌<◌, ◌≤◌, List, ◌∷◌, cond, ltb}
 use Rattle.hc_base.specs.declared.numbers.Cid.{Cid}
 use Rattle.hc_base.specs.declared.seat_word.SeatWord.TheVariants as seat
@@ -11,6 +11,7 @@ use Rattle.hc_core.specs.declared.event.Event.TheVariants.{Begin, Propose}
 use Rattle.hc_core.specs.declared.outcome.Outcome.TheVariants.{Began, Proposed}
 use Rattle.hc_rule.specs.declared.view.View.{View}
 use Rattle.hc_rule.specs.Views.{bare}
+use Rattle.hc_rule.specs.Kinds.LoadPage.{with_found}
 
 -- the transactions of the seat's own connection, newest first
 abbrev pub own_txns : View → List Txn
@@ -53,8 +54,8 @@ pub record LogLoad : Type 0 where
   pub c : ℕ
   pub last : ℕ
 
--- what it tells
-abbrev pub LoadsLog : LogLoad → View → ℕ → Me Unit View → Type 0
-LoadsLog l v n after =
-    ((n ≡ 0) × (v.seen.0 < l.c) × (after ≡ bare (at_end l.kind l.conn v)))
+-- what it tells, where the word is at this place
+abbrev pub LoadsLog : ℕ → LogLoad → View → ℕ → Me Unit View → Type 0
+LoadsLog place l v n after =
+    ((n ≡ 0) × (v.seen.0 < l.c) × (after ≡ bare (at_end l.kind l.conn (with_found place 0 v))))
     ⊎ ((n ≢ 0) × (n ≤ l.last) × (l.c ≤ l.last) × (after ≡ bare (with_place l.c n v)))

@@ -1,7 +1,7 @@
 -- A note from one seat to another. It has how much of the log the seat has seen, its own account and what it was told of
 -- others, and nothing else: no connection, page or number, and no word or place of the log that the seat noted. A split of the
 -- seat gives it, and a join takes it in.
-use Rattle.std.specs.Prelude.{ℕ, List, ◌∷◌, cond, ltb, ◌++◌}
+use Rattle.std.specs.Prelude.{List, ◌∷◌, cond, ltb, ◌++◌}
 use Rattle.hc_core.specs.declared.account.Account.{Account}
 use Rattle.hc_rule.specs.declared.view.Role.{Role}
 use Rattle.hc_rule.specs.declared.view.Role.TheVariants.{Dealer, Connection, Nobody}

@@ -1,12 +1,11 @@
 -- Stores of the word of the seat's own connection: it is about to take a snapshot, it reads its snapshot, or its transaction
 -- ends.
-use Rattle.std.specs.Prelude.{◌≡◌, ◌≢◌, ◌⊎◌, ℕ, List, [], None}
-use Rattle.hc_base.specs.declared.numbers.Cid.{Cid}
+use Rattle.std.specs.Prelude.{◌≡◌, ◌≢◌, ◌⊎◌, ℕ, [], None}
 use Rattle.hc_base.specs.declared.seat_word.SeatWord.{SeatWord}
 use Rattle.hc_base.specs.declared.seat_word.SeatWord.TheVariants as seat
 use Rattle.hc_base.specs.declared.tid_word.TidWord.TheVariants as tid
 use Rattle.atomic_table.specs.Table.{Me}
-use Rattle.hc_core.specs.Account.{Txn, WhenOpen, begun_at}
+use Rattle.hc_core.specs.Account.{WhenOpen}
 use Rattle.hc_core.specs.Diary.{entry_of}
 use Rattle.hc_core.specs.declared.event.Event.TheVariants.{End}
 use Rattle.hc_core.specs.declared.outcome.Outcome.TheVariants.{Done}

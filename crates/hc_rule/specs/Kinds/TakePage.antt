@@ -1,6 +1,7 @@
 -- An exchange of a free page's word by the seat's own: the page is in its hand then, with the row as it is.
-use Rattle.std.specs.Prelude.{◌≡◌, ◌≢◌, ◌⊎◌, ℕ, List, ◌∷◌, length, Bool, true, false, None}
+use Rattle.std.specs.Prelude.{◌≡◌, ◌≢◌, ◌⊎◌, ℕ, List, ◌∷◌, length, Bool, true, false, Option}
 use Rattle.hc_base.specs.Lookup.{Among}
+use Rattle.hc_base.specs.declared.numbers.Tid.{Tid}
 use Rattle.atomic_table.specs.Table.{Me}
 use Rattle.hc_rule.specs.declared.view.View.{View}
 use Rattle.hc_rule.specs.declared.view.Row.{Row}
@@ -10,13 +11,13 @@ use Rattle.hc_rule.specs.Hands.{row_of}
 use Rattle.hc_rule.specs.Views.{bare}
 use Rattle.hc_rule.specs.Kinds.LoadPage.{with_found}
 
--- a page that was claimed for no transaction yet
-abbrev pub claim_of : ℕ → Claim
-claim_of p = record { tid = None; claimed = claimed.Page (record { 0 = p }) }
+-- a page that was claimed for the transaction with this id, or for one that has drawn none
+abbrev pub claim_of : Option Tid → ℕ → Claim
+claim_of own p = record { tid = own; claimed = claimed.Page (record { 0 = p }) }
 
--- the view with a page in hand, and the next one that it names
+-- the view with a page in hand, and the next one that it names; it was claimed for the open transaction
 abbrev pub with_page : ℕ → ℕ → List ℕ → View → View
-with_page p next words v = record v { pages = row_of p next words ∷ v.pages; claimed = claim_of p ∷ v.claimed }
+with_page p next words v = record v { pages = row_of p next words ∷ v.pages; claimed = claim_of v.own p ∷ v.claimed }
 
 -- no page of this number is in hand
 abbrev pub IsElsewhere : ℕ → View → Type 0

@@ -14,23 +14,25 @@ use Rattle.hc_core.specs.declared.outcome.Outcome.TheVariants.{Drew}
 use Rattle.hc_rule.specs.declared.view.SeenWord.{SeenWord}
 use Rattle.hc_rule.specs.declared.view.View.{View}
 use Rattle.hc_rule.specs.Views.{bare}
+use Rattle.hc_rule.specs.Kinds.LoadPage.{with_found}
 use Rattle.hc_rule.specs.Kinds.LoadLog.{own_txns, with_entry}
 
 -- the view with a word of an id that was found
 abbrev pub with_seen : ℕ → TidWord → View → View
 with_seen id w v = record v { words = record { tid = record { 0 = id }; word = w; seen = v.seen } ∷ v.words }
 
--- an empty word may be filled at any time, so nothing is noted of it
-abbrev pub saw : ℕ → TidWord → View → View
-saw id tid.Empty v = v
-saw id (tid.Live conn ord) v = with_seen id (tid.Live conn ord) v
-saw id (tid.Validating conn ord c) v = with_seen id (tid.Validating conn ord c) v
-saw id (tid.Committed conn ord c) v = with_seen id (tid.Committed conn ord c) v
-saw id (tid.RolledBack conn ord) v = with_seen id (tid.RolledBack conn ord) v
+-- The same where the word may be empty. It may be filled at any time, so that it was found empty at this place is all that is
+-- noted then.
+abbrev pub saw : ℕ → ℕ → TidWord → View → View
+saw place id tid.Empty v = with_found place 0 v
+saw place id (tid.Live conn ord) v = with_seen id (tid.Live conn ord) v
+saw place id (tid.Validating conn ord c) v = with_seen id (tid.Validating conn ord c) v
+saw place id (tid.Committed conn ord c) v = with_seen id (tid.Committed conn ord c) v
+saw place id (tid.RolledBack conn ord) v = with_seen id (tid.RolledBack conn ord) v
 
--- what a load of the word of an id tells
-abbrev pub LoadsTid : ℕ → View → ℕ → Me Unit View → Type 0
-LoadsTid id v n after = (w : TidWord) × IsTidWord w × (tid_word w ≡ n) × (after ≡ bare (saw id w v))
+-- what a load of the word of an id tells, where it is at this place
+abbrev pub LoadsTid : ℕ → ℕ → View → ℕ → Me Unit View → Type 0
+LoadsTid place id v n after = (w : TidWord) × IsTidWord w × (tid_word w ≡ n) × (after ≡ bare (saw place id w v))
 
 -- an id is the first, or the one before it was seen drawn
 abbrev pub FollowsSeen : ℕ → List SeenWord → Type 0
@@ -55,14 +57,14 @@ pub record MayDraw (d : Drawing) (v : View) : Type 0 where
 abbrev pub drew : Drawing → View → View
 drew d v = record (with_entry (entry_of (Draw d.conn d.ord) (Drew (record { 0 = d.id }))) v) { own = Some (record { 0 = d.id }); word = tid.Live d.conn d.ord }
 
--- what the exchange tells: the id was free and is drawn, or what was found there
-abbrev pub DrawsTid : Drawing → View → ℕ → Me Unit View → Type 0
-DrawsTid d v n after = ((n ≡ 0) × (after ≡ bare (drew d v))) ⊎ ((n ≢ 0) × LoadsTid d.id v n after)
+-- what the exchange at this place tells: the id was free and is drawn, or what was found there
+abbrev pub DrawsTid : ℕ → Drawing → View → ℕ → Me Unit View → Type 0
+DrawsTid place d v n after = ((n ≡ 0) × (after ≡ bare (drew d v))) ⊎ ((n ≢ 0) × LoadsTid place d.id v n after)
 
 -- the same by the answer: whether the id was drawn
 abbrev pub DrewTid : Drawing → View → Bool → Me Unit View → Type 0
 DrewTid d v true after = after ≡ bare (drew d v)
-DrewTid d v false after = (w : TidWord) × IsTidWord w × (w ≢ tid.Empty) × (after ≡ bare (saw d.id w v))
+DrewTid d v false after = (w : TidWord) × IsTidWord w × (w ≢ tid.Empty) × (after ≡ bare (with_seen d.id w v))
 
 -- the word says that the transaction was rolled back
 abbrev pub IsRolledBack : TidWord → Type 0

@@ -1,5 +1,5 @@
 -- An exchange of an empty word of the log by the own id: the transaction is committed then, at this number.
-use Rattle.std.specs.Prelude.{◌≡◌, ◌≢◌, ◌⊎◌, ℕ, ◌≤◌, Some, List}
+use Rattle.std.specs.Prelude.{◌≡◌, ◌≢◌, ◌⊎◌, ℕ, ◌≤◌, Some}
 use Rattle.hc_base.specs.Lookup.{Among}
 use Rattle.hc_base.specs.declared.tid_word.TidWord.TheVariants as tid
 use Rattle.hc_range.specs.Ranges.{Includes}

@@ -14,7 +14,7 @@ use Rattle.hc_steps.proofs.log_words.load_log_as.Goals as goal
 
 -- this load at this place, under the rule of this layout
 abbrev IsAllowed : ℕ → ℕ → Layout → Me Unit View → ℕ → LogLoad → Type 0
-IsAllowed slots id y me place load = Allows (λ (s : State Unit View). Holds y s.words s.views) slots id me place (λ n. n) (λ n after. LoadsLog load me.0 n after)
+IsAllowed slots id y me place load = Allows (λ (s : State Unit View). Holds y s.words s.views) slots id me place (λ n. n) (λ n after. LoadsLog place load me.0 n after)
 
 pub load-requires : goal.load-requires
 load-requires g c =
@@ -33,3 +33,6 @@ load-requires g c =
           (load_log_allows y slots id g.N.Looked.load me.0 (subst (HasPlace y) at c.requires.place) (c.requires.connected ∙ ap Connection (sym c.requires.picked.0)) c.requires.picked.2
           (subst (λ n. Asks g.N.Looked.load.kind n me.0) at c.requires.asked)))),
     )
+
+pub returns-clause-told : goal.returns-clause-told
+returns-clause-told g c = subst (λ place. LoadsLog place g.N.Looked.load c.args.seat.now.me.0 c.load.result c.load.new.seat.me) c.log_at.ensures c.load.ensures.2

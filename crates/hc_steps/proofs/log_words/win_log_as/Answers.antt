@@ -1,9 +1,9 @@
 -- The exchange keeps the rule.
-use Rattle.std.proofs.Common.{◌==◌, ℕ, ◌∙◌, refl, sym, ap, subst, arith}
+use Rattle.std.proofs.Common.{◌==◌, ℕ, refl, sym, subst, arith}
 use prog.Atomic.{either}
 use Rattle.atomic_table.specs.Table.{State, Allows, Me}
 use Rattle.hc_rows.specs.declared.layout.Layout.{Layout}
-use Rattle.hc_rows.specs.Places.{HasPlace, log_at}
+use Rattle.hc_rows.specs.Places.{log_at}
 use Rattle.hc_rows.proofs.Steps.{log_below}
 use Rattle.hc_rule.specs.declared.view.View.{View}
 use Rattle.hc_rule.specs.Rule.{Holds}

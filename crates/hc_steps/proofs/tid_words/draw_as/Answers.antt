@@ -2,13 +2,12 @@
 use Rattle.std.proofs.Common.{◌==◌, ℕ, ◌∙◌, sym, ap, subst, arith}
 use prog.Atomic.{either}
 use Rattle.atomic_table.specs.Table.{State, Allows, Me}
-use Rattle.hc_base.specs.Words.{IsTidWord, tid_word}
+use Rattle.hc_base.specs.Words.{tid_word}
 use Rattle.hc_base.specs.declared.tid_word.TidWord.TheVariants.{Live}
 use Rattle.hc_rows.specs.declared.layout.Layout.{Layout}
-use Rattle.hc_rows.specs.Places.{HasTid, tid_at}
+use Rattle.hc_rows.specs.Places.{tid_at}
 use Rattle.hc_rows.proofs.Steps.{tid_below}
 use Rattle.hc_rule.specs.declared.view.View.{View}
-use Rattle.hc_rule.specs.declared.view.Role.TheVariants.{Connection}
 use Rattle.hc_rule.specs.Rule.{Holds}
 use Rattle.hc_rule.specs.Views.{bare}
 use Rattle.hc_rule.specs.Kinds.TidWord.{Drawing, DrawsTid}
@@ -17,7 +16,7 @@ use Rattle.hc_steps.proofs.tid_words.draw_as.Goals as goal
 
 -- the exchange at this place for this word, in this draw, under the rule of this layout
 abbrev IsAllowed : ℕ → ℕ → Layout → Me Unit View → ℕ → ℕ → Drawing → Type 0
-IsAllowed slots id y me place new d = Allows (λ (s : State Unit View). Holds y s.words s.views) slots id me place (λ n. either (n == 0) new n) (λ n after. DrawsTid d me.0 n after)
+IsAllowed slots id y me place new d = Allows (λ (s : State Unit View). Holds y s.words s.views) slots id me place (λ n. either (n == 0) new n) (λ n after. DrawsTid place d me.0 n after)
 
 pub pack-new-requires : goal.pack-new-requires
 pack-new-requires g c = (omega (arith, c.requires.conn, c.from.ensures), c.requires.may.ord.0, c.requires.may.ord.1)
@@ -42,4 +41,6 @@ compare_exchange-requires g c =
     )
 
 pub returns-clause-told : goal.returns-clause-told
-returns-clause-told g c = subst (λ d. DrawsTid d c.args.seat.now.me.0 c.compare_exchange.result c.compare_exchange.new.seat.me) c.requires.picked c.compare_exchange.ensures.2
+returns-clause-told g c =
+    subst (λ place. DrawsTid place (record { conn = c.args.conn; id = c.args.t.0; ord = c.args.ord }) c.args.seat.now.me.0 c.compare_exchange.result c.compare_exchange.new.seat.me) c.tid_at.ensures
+    (subst (λ d. DrawsTid c.tid_at.result d c.args.seat.now.me.0 c.compare_exchange.result c.compare_exchange.new.seat.me) c.requires.picked c.compare_exchange.ensures.2)

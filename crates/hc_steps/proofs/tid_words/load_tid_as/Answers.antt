@@ -1,14 +1,10 @@
 -- The load keeps the rule.
-use Rattle.std.proofs.Common.{◌==◌, ℕ, ◌∙◌, sym, ap, subst, arith}
-use prog.Atomic.{either}
+use Rattle.std.proofs.Common.{ℕ, sym, subst, arith}
 use Rattle.atomic_table.specs.Table.{State, Allows, Me}
-use Rattle.hc_base.specs.Words.{IsTidWord, tid_word}
-use Rattle.hc_base.specs.declared.tid_word.TidWord.TheVariants.{Live}
 use Rattle.hc_rows.specs.declared.layout.Layout.{Layout}
-use Rattle.hc_rows.specs.Places.{HasTid, tid_at}
+use Rattle.hc_rows.specs.Places.{tid_at}
 use Rattle.hc_rows.proofs.Steps.{tid_below}
 use Rattle.hc_rule.specs.declared.view.View.{View}
-use Rattle.hc_rule.specs.declared.view.Role.TheVariants.{Connection}
 use Rattle.hc_rule.specs.Rule.{Holds}
 use Rattle.hc_rule.specs.Views.{bare}
 use Rattle.hc_rule.specs.Kinds.TidWord.{LoadsTid}
@@ -17,7 +13,7 @@ use Rattle.hc_steps.proofs.tid_words.load_tid_as.Goals as goal
 
 -- a load of the word of this id at this place, under the rule of this layout
 abbrev IsAllowed : ℕ → ℕ → Layout → Me Unit View → ℕ → ℕ → Type 0
-IsAllowed slots id y me place t = Allows (λ (s : State Unit View). Holds y s.words s.views) slots id me place (λ n. n) (λ n after. LoadsTid t me.0 n after)
+IsAllowed slots id y me place t = Allows (λ (s : State Unit View). Holds y s.words s.views) slots id me place (λ n. n) (λ n after. LoadsTid place t me.0 n after)
 
 pub load-requires : goal.load-requires
 load-requires g c =
@@ -35,4 +31,6 @@ load-requires g c =
     )
 
 pub returns-clause-told : goal.returns-clause-told
-returns-clause-told g c = subst (λ t. LoadsTid t c.args.seat.now.me.0 c.load.result c.load.new.seat.me) c.requires.picked c.load.ensures.2
+returns-clause-told g c =
+    subst (λ place. LoadsTid place c.args.t.0 c.args.seat.now.me.0 c.load.result c.load.new.seat.me) c.tid_at.ensures
+    (subst (λ t. LoadsTid c.tid_at.result t c.args.seat.now.me.0 c.load.result c.load.new.seat.me) c.requires.picked c.load.ensures.2)

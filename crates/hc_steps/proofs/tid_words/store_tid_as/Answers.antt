@@ -1,14 +1,11 @@
 -- The store keeps the rule.
-use Rattle.std.proofs.Common.{◌==◌, ℕ, ◌∙◌, sym, ap, subst, arith}
-use prog.Atomic.{either}
+use Rattle.std.proofs.Common.{ℕ, sym, subst, arith}
 use Rattle.atomic_table.specs.Table.{State, Allows, Me}
-use Rattle.hc_base.specs.Words.{IsTidWord, tid_word}
-use Rattle.hc_base.specs.declared.tid_word.TidWord.TheVariants.{Live}
+use Rattle.hc_base.specs.Words.{tid_word}
 use Rattle.hc_rows.specs.declared.layout.Layout.{Layout}
-use Rattle.hc_rows.specs.Places.{HasTid, tid_at}
+use Rattle.hc_rows.specs.Places.{tid_at}
 use Rattle.hc_rows.proofs.Steps.{tid_below}
 use Rattle.hc_rule.specs.declared.view.View.{View}
-use Rattle.hc_rule.specs.declared.view.Role.TheVariants.{Connection}
 use Rattle.hc_rule.specs.Rule.{Holds}
 use Rattle.hc_rule.specs.Views.{bare}
 use Rattle.hc_rule.specs.Kinds.TidWord.{TidStore, StoresTid}

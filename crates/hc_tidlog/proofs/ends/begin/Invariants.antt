@@ -6,7 +6,7 @@ use Rattle.hc_tidlog.proofs.ends.begin.Given as goal
 
 abbrev pub invariant-looks : goal.invariant-looks
 invariant-looks l = record {
-  looked : Looked l.initial.grip.seat.me.0 l.grip.seat.me.0;
+  looked : Looked l.initial.grip.layout l.initial.grip.seat.me.0 l.grip.seat.me.0;
   same : IsSame l.initial.grip l.grip;
 }
 

@@ -6,7 +6,7 @@ use Rattle.hc_tidlog.proofs.ids.double.Given as goal
 
 abbrev pub invariant-steps : goal.invariant-steps
 invariant-steps l = record {
-  reached : Reached l.from l.low l.initial.grip.seat.me.0 l.grip.seat.me.0;
+  reached : Reached l.initial.grip.layout l.from l.low l.initial.grip.seat.me.0 l.grip.seat.me.0;
   some : 0 < l.step;
   within : l.low ≤ l.last;
   last : l.last ≤ l.initial.grip.layout.transactions;

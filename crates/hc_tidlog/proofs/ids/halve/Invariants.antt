@@ -6,7 +6,7 @@ use Rattle.hc_tidlog.proofs.ids.halve.Given as goal
 
 abbrev pub invariant-halves : goal.invariant-halves
 invariant-halves l = record {
-  reached : Reached l.fn.span.low l.low l.initial.grip.seat.me.0 l.grip.seat.me.0;
+  reached : Reached l.initial.grip.layout l.fn.span.low l.low l.initial.grip.seat.me.0 l.grip.seat.me.0;
   below : l.low < l.high;
   high : l.high ≤ l.initial.grip.layout.transactions + 1;
   same : IsSame l.initial.grip l.grip;

@@ -14,12 +14,12 @@ pub returns-clause-drawn : goal.returns-clause-drawn
 returns-clause-drawn c =
     let y = c.args.self.now.grip in
     let after = c.draw_id.new.grip.seat.me.0 in
-    IfOk-weaker c.draw_id.result (λ (t : Tid). HasTid y.layout t.0 × DrewNext y.conn c.args.self.now.ord y.seat.me.0 t.0 after) (λ (t : Tid). HasTid y.layout t.0 × IsDrawn t.0 c.args.self.now.ord 0 0 after)
-    (λ t told. (told.0, drawn y.conn c.args.self.now.ord t.0 y.seat.me.0 after c.requires.started told.1)) c.draw_id.ensures.drew
+    IfOk-weaker c.draw_id.result (λ (t : Tid). HasTid y.layout t.0 × DrewNext y.layout y.conn c.args.self.now.ord y.seat.me.0 t.0 after) (λ (t : Tid). HasTid y.layout t.0 × IsDrawn t.0 c.args.self.now.ord 0 0 after)
+    (λ t told. (told.0, drawn y.layout y.conn c.args.self.now.ord t.0 y.seat.me.0 after c.requires.started told.1)) c.draw_id.ensures.drew
 
 pub returns-clause-still : goal.returns-clause-still
 returns-clause-still c =
     let y = c.args.self.now.grip in
     let after = c.draw_id.new.grip.seat.me.0 in
-    IfErr-weaker c.draw_id.result (λ _. FoundDrawn y.layout.transactions y.seat.me.0 after) (λ _. HasStarted c.args.self.now.ord after)
-    (λ full told. still_started c.args.self.now.ord y.layout.transactions y.seat.me.0 after c.requires.started told) c.draw_id.ensures.cause
+    IfErr-weaker c.draw_id.result (λ _. FoundDrawn y.layout y.layout.transactions y.seat.me.0 after) (λ _. HasStarted c.args.self.now.ord after)
+    (λ full told. still_started y.layout c.args.self.now.ord y.layout.transactions y.seat.me.0 after c.requires.started told) c.draw_id.ensures.cause

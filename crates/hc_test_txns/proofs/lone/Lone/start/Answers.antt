@@ -6,4 +6,4 @@ pub register-requires : goal.register-requires
 register-requires c = record { idle = idle_seat c.args.self.now.ord c.args.self.now.grip.seat.me.0 c.requires.may }
 
 pub returns-clause-started : goal.returns-clause-started
-returns-clause-started c = started c.args.self.now.grip.conn c.args.self.now.ord c.args.self.now.grip.seat.me.0 c.register.result c.register.new.grip.seat.me.0 c.requires.may c.register.ensures.registered c.register.ensures.none
+returns-clause-started c = started c.args.self.now.grip.layout c.args.self.now.grip.conn c.args.self.now.ord c.args.self.now.grip.seat.me.0 c.register.result c.register.new.grip.seat.me.0 c.requires.may c.register.ensures.registered c.register.ensures.none

@@ -4,15 +4,18 @@ use Rattle.atomic_table.specs.Table.{Me}
 use Rattle.hc_base.specs.declared.tid_word.TidWord.TheVariants.{Validating}
 use Rattle.hc_rule.specs.declared.view.View.{View}
 use Rattle.hc_rule.specs.Kinds.TidWord.{MayStoreTid, said}
+use Rattle.hc_steps.specs.Own.{own_store}
 use Rattle.hc_test_txns.proofs.Staged.{may_validate, validates}
 use Rattle.hc_test_txns.proofs.lone.Lone.validate.Goals as goal
 
-pub set_state-requires-clause-may : goal.set_state-requires-clause-may
-set_state-requires-clause-may c =
+pub set_state-requires : goal.set_state-requires
+set_state-requires c =
     let y = c.args.self.now.grip in
-    subst (λ n. MayStoreTid (record { conn = y.conn; id = c.args.t.0; word = Validating n c.args.self.now.ord c.args.c }) y.seat.me.0) (sym c.from-conn.ensures)
-    (may_validate y.conn c.args.t.0 c.args.self.now.ord c.args.c y.seat.me.0 c.requires.proposed
-    ((omega (arith, y.dealt, y.ranged.seats), c.requires.ord.0, c.requires.ord.1), (c.requires.place.0, omega (arith, c.requires.place.1, y.ranged.transactions))))
+    record {
+      may = subst (λ n. MayStoreTid (own_store y.conn (Validating n c.args.self.now.ord c.args.c) y.seat.me.0) y.seat.me.0) (sym c.from-conn.ensures)
+          (may_validate y.conn c.args.t.0 c.args.self.now.ord c.args.c y.seat.me.0 c.requires.proposed
+          ((omega (arith, y.dealt, y.ranged.seats), c.requires.ord.0, c.requires.ord.1), (c.requires.place.0, omega (arith, c.requires.place.1, y.ranged.transactions))));
+    }
 
 pub returns-clause-validates : goal.returns-clause-validates
 returns-clause-validates c =
