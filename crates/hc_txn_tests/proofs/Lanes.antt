@@ -1,12 +1,12 @@
 -- A transaction that is open stays one of its desk.
 use Rattle.std.proofs.Common.{◌≡◌, ◌∙◌, refl, sym, ap, subst, ℕ, ◌<◌, max, None, Result, Ok, Err, List, [], ◌∷◌, ◌++◌, arith}
 use Rattle.hc_base.specs.declared.numbers.Cid.{Cid}
-use Rattle.hc_core.specs.Account.{Txn, after_read, newest_changed, txns}
+use Rattle.hc_core.specs.Account.{Txn, after_end, after_read, newest_changed, txns}
 use Rattle.hc_core.specs.Diary.{entry_of}
 use Rattle.hc_core.specs.Running.{greatest_ord}
 use Rattle.hc_core.specs.declared.account.Entry.{Entry}
-use Rattle.hc_core.specs.declared.event.Event.TheVariants.{Begin}
-use Rattle.hc_core.specs.declared.outcome.Outcome.TheVariants.{Began, Cells}
+use Rattle.hc_core.specs.declared.event.Event.TheVariants.{Begin, End}
+use Rattle.hc_core.specs.declared.outcome.Outcome.TheVariants.{Began, Cells, Done}
 use Rattle.hc_core.specs.Account.{PartRead}
 use Rattle.hc_core.specs.declared.cells.Write.{Write}
 use Rattle.hc_range.specs.declared.range.Range.{Range}
@@ -14,18 +14,7 @@ use Rattle.hc_txn.specs.Marks.{HasReleased, HasUndone}
 use Rattle.hc_txn.specs.Transactions.{AreRecordsOf, HasOnlyRead, IsLogOf, IsOf, Mark, Transaction, entries_of, having_read, reads_of}
 use Rattle.hc_txn_tests.specs.Lanes.{IsLane, KeepsReads}
 
--- a transaction that has just begun
-pub begun : (conn : ℕ) (snapshot : Cid) (before after : List Entry) (txn : Transaction) → after ≡ entry_of (Begin conn) (Began snapshot) ∷ before
-    → txn ≡ record { snapshot = snapshot.0; log = []; own = []; kept = []; marks = []; statement = None } → IsOf after txn
-begun conn snapshot before after txn e same =
-    subst (λ (t : Transaction). IsOf after t) (sym same)
-    (subst (λ (a : List Entry). IsOf a (record { snapshot = snapshot.0; log = []; own = []; kept = []; marks = []; statement = None })) (sym e) (record {
-      older = txns before;
-      newest = refl;
-      log = λ key. (λ h. absurd h, λ h. absurd h.1);
-      records = λ write a. absurd a;
-    }))
-
+-- a begin leaves the ordinals
 pub begun_ord : (conn : ℕ) (snapshot : Cid) (before after : List Entry) → after ≡ entry_of (Begin conn) (Began snapshot) ∷ before → greatest_ord (txns after) ≡ greatest_ord (txns before)
 begun_ord conn snapshot before after e = ap (λ (a : List Entry). greatest_ord (txns a)) e ∙ zero_max (greatest_ord (txns before))
   where
@@ -40,6 +29,10 @@ ord_read : (conn : ℕ) (reads : List PartRead) (account : List Entry) → great
 ord_read conn [] account = refl
 ord_read conn (read ∷ reads) account =
     ord_changed (after_read read.part (Cells (record { cells = read.cells }))) (λ t. refl) (txns (entries_of conn reads ++ account)) ∙ ord_read conn reads account
+
+-- an end leaves the ordinals
+pub ended_ord : (conn : ℕ) (before after : List Entry) → after ≡ entry_of (End conn) Done ∷ before → greatest_ord (txns after) ≡ greatest_ord (txns before)
+ended_ord conn before after e = ap (λ (a : List Entry). greatest_ord (txns a)) e ∙ ord_changed (after_end Done) (λ t. refl) (txns before)
 
 -- reads leave the ordinals
 pub reads_ord : (conn : ℕ) (before after : List Entry) → HasOnlyRead conn before after → greatest_ord (txns after) ≡ greatest_ord (txns before)

@@ -21,8 +21,14 @@ pub enum Do {
     Get(u32),
     // From a key up to another; an upper end of 0 means that there is none.
     Range(u32, u32),
+    // The last cell, from a key up to another.
+    Last(u32, u32),
     // A record of 0 is a tombstone.
     Write(u32, u32),
+    // A key and a record of these lengths, each byte of them 61.
+    WriteLong(usize, usize),
+    // From a key of some length up to one of another, each byte of them 61; an upper end of length 0 means that there is none.
+    RangeLong(usize, usize),
     Start,
     Keep,
     Undo,
@@ -63,8 +69,7 @@ fn begin<D: Desk>(alloc: Global, desk: &mut D) -> Txn
     ensures ords { greatest_ord (txns (D.account desk.new)) ≡ greatest_ord (txns (D.account desk.old)) }
     ensures on { GoesOn D.conn D.most D.seen D.later desk.old desk.new }
 {
-    let snapshot = desk.begin();
-    Txn::new(alloc, snapshot)
+    Txn::begin(alloc, desk)
 }
 
 fn get<D: Desk>(alloc: Global, desk: &mut D, txn: &mut Txn, key: u32) -> Result<String, NoMemory>
@@ -87,7 +92,42 @@ fn found_text(alloc: Global, found: Option<Bytes>) -> Result<String, NoMemory> {
     Ok(text)
 }
 
+fn long(alloc: Global, len: usize) -> Result<Bytes, NoMemory> {
+    let mut bytes = Vec::new(alloc);
+    for _ in 0..len {
+        bytes.push(0x61)?;
+    }
+    Ok(Bytes::from_vec(bytes))
+}
+
+fn long_end(alloc: Global, len: usize) -> Result<Option<Bytes>, NoMemory> {
+    match len {
+        0 => Ok(None),
+        len => Ok(Some(long(alloc, len)?)),
+    }
+}
+
 fn range<D: Desk>(
+    alloc: Global,
+    desk: &mut D,
+    txn: &mut Txn,
+    lo: Bytes,
+    hi: Option<Bytes>,
+) -> Result<String, NoMemory>
+    requires of { IsOf (D.account desk.old) txn.old }
+    ensures of { IsOf (D.account desk.new) txn.new }
+    ensures ords { greatest_ord (txns (D.account desk.new)) ≡ greatest_ord (txns (D.account desk.old)) }
+    ensures on { GoesOn D.conn D.most D.seen D.later desk.old desk.new }
+{
+    let range = Range { lo, hi };
+    let mut part = Part {
+        cells: Items::new(alloc),
+    };
+    txn.read_range(desk, &range, &mut part)?;
+    cells_text(alloc, &part)
+}
+
+fn last<D: Desk>(
     alloc: Global,
     desk: &mut D,
     txn: &mut Txn,
@@ -106,8 +146,16 @@ fn range<D: Desk>(
     let mut part = Part {
         cells: Items::new(alloc),
     };
-    txn.read_range(desk, &range, &mut part)?;
-    cells_text(alloc, &part)
+    let some = txn.last(desk, &range, &mut part)?;
+    last_text(alloc, some, &part)
+}
+
+fn last_text(alloc: Global, some: bool, part: &Part) -> Result<String, NoMemory> {
+    if some {
+        cells_text(alloc, part)
+    } else {
+        format!(in alloc; "no cell")
+    }
 }
 
 fn cells_text(alloc: Global, part: &Part) -> Result<String, NoMemory> {
@@ -132,16 +180,14 @@ fn write<D: Desk>(
     alloc: Global,
     desk: &mut D,
     txn: &mut Txn,
-    key: u32,
-    rec: u32,
+    key: Bytes,
+    rec: Option<Bytes>,
 ) -> Result<String, NoMemory>
     requires of { IsOf (D.account desk.old) txn.old }
     ensures of { IsOf (D.account desk.new) txn.new }
     ensures ords { greatest_ord (txns (D.account desk.new)) ≡ greatest_ord (txns (D.account desk.old)) }
     ensures on { GoesOn D.conn D.most D.seen D.later desk.old desk.new }
 {
-    let key = bytes(alloc, key)?;
-    let rec = end(alloc, rec)?;
     match txn.write(desk, key.as_slice(), lent(&rec)) {
         Ok(()) => format!(in alloc; "written"),
         Err(WriteFault::TooBig(size)) => format!(in alloc; "too big {size}"),
@@ -207,8 +253,15 @@ fn within<D: Desk>(alloc: Global, desk: &mut D, txn: &mut Txn, what: Do) -> Resu
     match what {
         Do::Begin => format!(in alloc; "not now"),
         Do::Get(key) => get(alloc, desk, txn, key),
-        Do::Range(from, upto) => range(alloc, desk, txn, from, upto),
-        Do::Write(key, rec) => write(alloc, desk, txn, key, rec),
+        Do::Range(from, upto) => range(alloc, desk, txn, bytes(alloc, from)?, end(alloc, upto)?),
+        Do::RangeLong(from, upto) => {
+            range(alloc, desk, txn, long(alloc, from)?, long_end(alloc, upto)?)
+        }
+        Do::Last(from, upto) => last(alloc, desk, txn, from, upto),
+        Do::Write(key, rec) => write(alloc, desk, txn, bytes(alloc, key)?, end(alloc, rec)?),
+        Do::WriteLong(key, rec) => {
+            write(alloc, desk, txn, long(alloc, key)?, Some(long(alloc, rec)?))
+        }
         what => alone(alloc, txn, what),
     }
 }

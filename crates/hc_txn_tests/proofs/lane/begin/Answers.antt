@@ -1,6 +1,6 @@
-use Rattle.hc_txn_tests.proofs.Lanes.{begun}
+use Rattle.hc_txn_tests.proofs.Lanes.{begun_ord}
 use Rattle.hc_txn_tests.proofs.lane.begin.Goals as goal
 
-pub returns-clause-of : goal.returns-clause-of
-returns-clause-of g c =
-    begun (g.D.Desk.conn c.args.desk.now) c.begin-snapshot.result (g.D.Desk.account c.args.desk.now) (g.D.Desk.account c.begin-snapshot.new.self) c.new.result c.begin-snapshot.ensures.entry c.new.ensures
+pub returns-clause-ords : goal.returns-clause-ords
+returns-clause-ords g c =
+    begun_ord (g.D.Desk.conn c.args.desk.now) (record { 0 = c.begin.result.snapshot }) (g.D.Desk.account c.args.desk.now) (g.D.Desk.account c.begin.new.desk) c.begin.ensures.entry
