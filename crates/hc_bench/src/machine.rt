@@ -10,7 +10,8 @@ use hc_test_desks::{commit, may_be_reserved, open, put_all, read};
 use sqlite_items::Items;
 use std::alloc::Global;
 
-fn key(alloc: Global, number: u32) -> Result<Bytes, NoMemory> {
+/// The key of a number.
+pub fn key(alloc: Global, number: u32) -> Result<Bytes, NoMemory> {
     let mut key = [7; 13];
     key[9..].copy_from_slice(&number.to_be_bytes());
     Bytes::from_slice(alloc, &key)
@@ -91,7 +92,7 @@ pub fn commit_keys<D: Desk>(desk: &mut D, alloc: Global, first: u32, count: u32)
     Some(sum)
 }
 
-// The numbers of keys come scattered, by a linear congruential generator.
-fn place(turn: u32) -> u32 {
+/// The numbers of keys come scattered, by a linear congruential generator.
+pub fn place(turn: u32) -> u32 {
     turn.wrapping_mul(2_654_435_761)
 }

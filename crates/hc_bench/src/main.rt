@@ -1,21 +1,29 @@
 //! Times the read log: 100,000 ranges added in ascending order, 10,000 added in scattered order, and a
-//! look-up of 200,000 keys in each log. The counts go to standard output, the times to standard error.
+//! look-up of 200,000 keys in each log; then commits through a desk, and one transaction's reads, writes and savepoints. The
+//! counts go to standard output, the times to standard error.
 #![tactic(auto)]
 
 ghost use Rattle.std.specs.Prelude.{◌<◌, ◌≤◌, IfSome};
 
 mod machine;
+mod transaction;
 mod workload;
 
 use crate::machine::{ascending_writes, commit_keys, lowest_keys, read_cells};
+use crate::transaction::{Order, read_keys, set_marks, write_keys};
 use crate::workload::{ascending, count_covered, scattered};
 use hc_core::{Core, ListDesk};
 use hc_range::{ReadLog, contains};
 use hc_test_desks::{may_be_reserved, open, put_all};
+use hc_txn::Txn;
 use std::time::{Duration, Instant};
 use std::{env, io};
 
 fn main(rt: HostRuntime) -> io::Result<()> {
+    if let Some(writes) = writes_alone(&rt) {
+        time_writes(&rt, writes, Order::Scattered)?;
+        return Ok(());
+    }
     if let Some(keys) = keys_alone(&rt) {
         return commit_alone(&rt, keys);
     }
@@ -56,7 +64,93 @@ fn main(rt: HostRuntime) -> io::Result<()> {
     let many = time_puts(&rt, writes)?;
     let of_one = few.checked_div(u128::from(FEW_WRITES)).unwrap_or(0);
     let of_many = many.checked_div(u128::from(writes)).unwrap_or(0);
-    report_ratio(&rt, "a put among many writes", of_one, of_many)
+    report_ratio(&rt, "a put among many writes", of_one, of_many)?;
+    time_transactions(&rt, writes)
+}
+
+// Times scattered reads and writes of one transaction against ascending ones, and savepoints among many writes.
+fn time_transactions(rt: &HostRuntime, count: u32) -> io::Result<()> {
+    let ascending = time_reads(rt, count, Order::Ascending)?;
+    let scattered = time_reads(rt, count, Order::Scattered)?;
+    report_order(rt, "reads", ascending, scattered)?;
+    let few = time_writes(rt, FEW_MARKED, Order::Ascending)?;
+    let ascending = time_writes(rt, count, Order::Ascending)?;
+    let scattered = time_writes(rt, count, Order::Scattered)?;
+    report_order(rt, "writes", ascending.writes, scattered.writes)?;
+    report_ratio(
+        rt,
+        "1,000 savepoints among many writes",
+        few.marks,
+        scattered.marks,
+    )
+}
+
+fn report_order(rt: &HostRuntime, what: &str, ascending: u128, scattered: u128) -> io::Result<()> {
+    let hundredths = scattered
+        .saturating_mul(100)
+        .checked_div(ascending)
+        .unwrap_or(0);
+    eprintln!(rt; "scattered {what} in a transaction: {hundredths} hundredths of ascending ones")
+}
+
+const FEW_MARKED: u32 = 50;
+
+const MARKS: u32 = 1_000;
+
+// Times point reads of one transaction, in nanoseconds.
+fn time_reads(rt: &HostRuntime, count: u32, order: Order) -> io::Result<u128> {
+    let alloc = rt.alloc();
+    let mut core = Core::new(alloc, 1)?;
+    if !core.takes_desk(0) {
+        return Ok(0);
+    }
+    let mut desk = ListDesk {
+        core: &mut core,
+        conn: 0,
+    };
+    let mut txn = Txn::begin(alloc, &mut desk);
+    let start = Instant::now(rt)?;
+    let none = read_keys(&mut desk, alloc, &mut txn, count, order)?;
+    let time = start.elapsed(rt)?;
+    println!(rt; "{none} keys read that have no record")?;
+    Ok(time.as_nanos())
+}
+
+// What is timed in a transaction, in nanoseconds.
+#[derive(Clone, Copy)]
+struct Written {
+    // Its writes.
+    writes: u128,
+    // 1,000 savepoints after them.
+    marks: u128,
+}
+
+fn time_writes(rt: &HostRuntime, count: u32, order: Order) -> io::Result<Written> {
+    let alloc = rt.alloc();
+    let mut core = Core::new(alloc, 1)?;
+    if !core.takes_desk(0) {
+        return Ok(Written {
+            writes: 0,
+            marks: 0,
+        });
+    }
+    let mut desk = ListDesk {
+        core: &mut core,
+        conn: 0,
+    };
+    let mut txn = Txn::begin(alloc, &mut desk);
+    let start = Instant::now(rt)?;
+    write_keys(&mut desk, alloc, &mut txn, count, order)?;
+    let writes = start.elapsed(rt)?.as_nanos();
+    println!(rt; "{count} keys written")?;
+    let start = Instant::now(rt)?;
+    let marks = set_marks(&mut txn, MARKS)?;
+    let time = start.elapsed(rt)?;
+    println!(rt; "{marks} savepoints set")?;
+    Ok(Written {
+        writes,
+        marks: time.as_nanos(),
+    })
 }
 
 // A time in hundredths of another one.
@@ -84,6 +178,16 @@ const NO_TIMES: Times = Times {
     commits: 0,
     read: 0,
 };
+
+// How many keys one transaction writes, and nothing else is done: 1,000 where there are four arguments, and 100,000 where there
+// are five.
+fn writes_alone(rt: &HostRuntime) -> Option<u32> {
+    match env::args(rt) {
+        Ok(words) if words.len() > 5 => Some(100_000),
+        Ok(words) if words.len() > 4 => Some(1_000),
+        _ => None,
+    }
+}
 
 // How many keys are committed and nothing else: 1,000 where there are two arguments, and 100,000 where there are three.
 fn keys_alone(rt: &HostRuntime) -> Option<u32>
